@@ -1,0 +1,2 @@
+-- Byte strings as keys.
+pub mod Order
