@@ -1,0 +1,8 @@
+-- Lemmas that several proofs share.
+pub mod Lists
+pub mod Blocks
+pub mod Rows
+pub mod Absorbing
+pub mod Table
+pub mod Roots
+pub mod Length

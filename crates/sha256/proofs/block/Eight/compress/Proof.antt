@@ -1,0 +1,20 @@
+use Rattle.sha256.specs.Rounds.{Compress, plus, Rounds}
+use borrow.Author.Needs.{needs}
+use Rattle.sha256.proofs.block.Eight.compress.Statement.{statement}
+use Rattle.sha256.proofs.block.Eight.compress.Tie as tie
+
+schedule-requires : tie.Need-schedule-requires
+schedule-requires c κs = search needs
+
+rounds-requires : tie.Need-rounds-requires
+rounds-requires c κs = search needs
+
+plus-requires : tie.Need-plus-requires
+plus-requires c κs = search needs
+
+returns : tie.Need-returns
+unfolding Compress
+returns c = cc
+
+pub compress-spec : {M : Type 1} → statement M
+compress-spec = tie.close (tie.spec schedule-requires rounds-requires plus-requires returns)
