@@ -1,0 +1,3 @@
+-- The lemmas that belong to no one function.
+pub mod Copying
+pub mod Rebuilding

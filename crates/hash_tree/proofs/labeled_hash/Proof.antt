@@ -1,0 +1,55 @@
+use mathlib.Core.Path.{ap, _∙_}
+use mathlib.Core.List.{[], append-assoc}
+use Rattle.sha256.specs.Hash.{sha256}
+use Rattle.hash_tree.specs.HashTree.{labeledTag, labeledHash}
+use borrow.Author.Needs.{needs}
+use Rattle.hash_tree.proofs.labeled_hash.Statement.{statement}
+use Rattle.hash_tree.proofs.labeled_hash.Tie as tie
+use Rattle.hash_tree.proofs.labeled_hash.Reads as reads
+use Rattle.hash_tree.proofs.labeled_hash.Lts as lts
+use Rattle.sha256.proofs.Sha256.finish.Reads as finish-reads
+use Rattle.sha256.proofs.Sha256.new.Reads as new-reads
+use Rattle.sha256.proofs.Sha256.update.Reads as update-reads
+
+-- src/lib.rt:34:13
+new-requires : tie.Need-new-requires
+new-requires c κs = search needs
+
+-- src/lib.rt:34:34
+slice-aggregate-update : tie.Need-slice-aggregate-update
+slice-aggregate-update c = search needs
+
+-- src/lib.rt:34:9
+update-requires : tie.Need-update-requires
+update-requires c κs = search needs
+
+-- src/lib.rt:35:5
+update-requires-2 : tie.Need-update-requires-2
+update-requires-2 c κs = search needs
+
+-- src/lib.rt:35:5
+update-requires-3 : tie.Need-update-requires-3
+update-requires-3 c κs = search needs
+
+-- src/lib.rt:35:5
+finish-requires : tie.Need-finish-requires
+finish-requires c κs = search needs
+
+-- src/lib.rt:31:1
+returns : tie.Need-returns
+unfolding labeledHash
+returns c =
+    let a = c .before .before .before .before .before .before .before .before .args in
+    c .finish .ensures _ (c .before .update3 .ensures _ (c .before .before .update2 .ensures _ (c .before .before .before .update .ensures [] (c .before .before .before .before .before .new .ensures)))) ∙ ap sha256 (append-assoc labeledTag (a .label .now) (a .child .now))
+
+pub labeled-hash-spec : {M : Type 1} → statement M
+labeled-hash-spec =
+    tie.close
+    (tie.spec
+    new-requires
+    slice-aggregate-update
+    update-requires
+    update-requires-2
+    update-requires-3
+    finish-requires
+    returns)

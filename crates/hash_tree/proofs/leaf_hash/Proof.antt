@@ -1,0 +1,47 @@
+use mathlib.Core.List.{[]}
+use Rattle.hash_tree.specs.HashTree.{leafHash}
+use borrow.Author.Needs.{needs}
+use Rattle.hash_tree.proofs.leaf_hash.Statement.{statement}
+use Rattle.hash_tree.proofs.leaf_hash.Tie as tie
+use Rattle.hash_tree.proofs.leaf_hash.Reads as reads
+use Rattle.hash_tree.proofs.leaf_hash.Lts as lts
+use Rattle.sha256.proofs.Sha256.finish.Reads as finish-reads
+use Rattle.sha256.proofs.Sha256.new.Reads as new-reads
+use Rattle.sha256.proofs.Sha256.update.Reads as update-reads
+
+-- src/lib.rt:42:13
+new-requires : tie.Need-new-requires
+new-requires c κs = search needs
+
+-- src/lib.rt:42:34
+slice-aggregate-update : tie.Need-slice-aggregate-update
+slice-aggregate-update c = search needs
+
+-- src/lib.rt:42:9
+update-requires : tie.Need-update-requires
+update-requires c κs = search needs
+
+-- src/lib.rt:43:5
+update-requires-2 : tie.Need-update-requires-2
+update-requires-2 c κs = search needs
+
+-- src/lib.rt:43:5
+finish-requires : tie.Need-finish-requires
+finish-requires c κs = search needs
+
+-- src/lib.rt:39:1
+returns : tie.Need-returns
+unfolding leafHash
+returns c =
+    c .finish .ensures _ (c .before .update2 .ensures _ (c .before .before .update .ensures [] (c .before .before .before .before .new .ensures)))
+
+pub leaf-hash-spec : {M : Type 1} → statement M
+leaf-hash-spec =
+    tie.close
+    (tie.spec
+    new-requires
+    slice-aggregate-update
+    update-requires
+    update-requires-2
+    finish-requires
+    returns)

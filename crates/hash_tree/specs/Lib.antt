@@ -1,0 +1,14 @@
+-- Hash trees: what they are, their digests, their written form, and what rebuilding a digest from bytes answers.
+pub mod HashTree
+pub mod Written
+pub mod Record
+pub mod Parse
+pub mod Whole
+pub mod Steps
+pub mod RecordLaws
+pub mod ParseLaws
+pub mod Deep
+pub mod Promises
+pub mod DigestLaws
+pub mod Prune
+pub mod Examples

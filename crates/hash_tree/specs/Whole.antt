@@ -1,0 +1,23 @@
+-- What `rebuild` answers: number 0 and the digest where the bytes are exactly one witness, else number 9 and 32 zero bytes. Definitions only.
+use Prim.Native.Nat.{ℕ}
+use mathlib.Core.List.{List, [], _∷_}
+use lib.ListN.{replicate}
+use Rattle.hash_tree.specs.declared.Rebuilt.{Rebuilt}
+use Rattle.hash_tree.specs.HashTree.{Digest, digest}
+use Rattle.hash_tree.specs.Written.{maxDepth, digestLen}
+use Rattle.hash_tree.specs.Parse.{Parsed, Got, Bad, parse}
+
+abbrev pub accepted : Digest → Rebuilt
+accepted d = record { number = 0; digest = d }
+
+abbrev pub refused : Rebuilt
+refused = record { number = 9; digest = replicate digestLen 0 }
+
+-- one tree, and nothing left
+abbrev pub alone : Parsed → Rebuilt
+alone (Got t []) = accepted (digest t)
+alone (Got t (x ∷ rest)) = refused
+alone Bad = refused
+
+unfoldable pub rebuilt : List ℕ → Rebuilt
+rebuilt bytes = alone (parse maxDepth bytes)
