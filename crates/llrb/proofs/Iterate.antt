@@ -1,0 +1,102 @@
+-- The first and the next entry are those of the entries in order; so next after next passes through all of them.
+-- Assumes nothing.
+use mathlib.Core.Path.{_≡_, refl, sym, ap, _∙_}
+use mathlib.Core.List.{List, [], _∷_, _++_}
+use mathlib.Core.Option.{Option, none, some}
+use Rattle.key_order.specs.declared.Ordering.{Ordering}
+use Rattle.key_order.specs.declared.Ordering.the-variants.{Less, Equal, Greater}
+use Rattle.key_order.specs.Order.{Key, cmp, pick}
+use Rattle.key_order.proofs.Laws.{cmp-refl, NotLt, notLt-gt, eq-notLt, gt-notLt}
+use Rattle.llrb.specs.Tree.{Entry, Tree, nil, node, entries}
+use Rattle.llrb.specs.Delete.{least}
+use Rattle.llrb.specs.Sorted.{Above, Below, Sorted}
+use Rattle.llrb.specs.Iterate.{firstEntry, orEntry, nextEntry, nextLoop, headOf, firstAbove}
+use Rattle.llrb.proofs.Lists.{sorted-left, sorted-right, sorted-below}
+
+head-append : (L : List Entry) (e : Entry) (R : List Entry) → headOf (L ++ (e ∷ R)) ≡ orEntry (headOf L) (some e)
+head-append [] e R = refl
+head-append (x ∷ L) e R = refl
+
+least-head : (e : Entry) (t : Tree) → some (least e t) ≡ orEntry (headOf (entries t)) (some e)
+least-head e nil = refl
+least-head e (node c x l r) = least-head x l ∙ (sym (head-append (entries l) x (entries r)) ∙ keeps (entries l))
+  where
+    keeps : (L : List Entry) → headOf (L ++ (x ∷ entries r)) ≡ orEntry (headOf (L ++ (x ∷ entries r))) (some e)
+    keeps [] = refl
+    keeps (y ∷ L) = refl
+
+pub first-head : (t : Tree) → firstEntry t ≡ headOf (entries t)
+unfolding firstEntry
+first-head nil = refl
+first-head (node c e l r) = least-head e l ∙ sym (head-append (entries l) e (entries r))
+
+-- ---- next
+
+above-left : (k : Key) (L : List Entry) (e : Entry) (R : List Entry) → cmp k (e .key) ≡ Less
+    → firstAbove k (L ++ (e ∷ R)) ≡ orEntry (firstAbove k L) (some e)
+unfolding firstAbove
+above-left k [] e R h = rw h
+above-left k (x ∷ L) e R h = at (cmp k (x .key)) (above-left k L e R h)
+  where
+    at : (o : Ordering) → firstAbove k (L ++ (e ∷ R)) ≡ orEntry (firstAbove k L) (some e)
+        → pick o (some x) (firstAbove k (L ++ (e ∷ R))) (firstAbove k (L ++ (e ∷ R))) ≡ orEntry (pick o (some x) (firstAbove k L) (firstAbove k L)) (some e)
+    at Less i = refl
+    at Equal i = i
+    at Greater i = i
+
+-- past what is not above k
+above-past : (k : Key) (L : List Entry) (e : Entry) (R : List Entry) → Below (e .key) L → NotLt k (e .key)
+    → firstAbove k (L ++ (e ∷ R)) ≡ firstAbove k R
+unfolding firstAbove
+above-past k [] e R b h = at (cmp k (e .key)) h
+  where
+    at : (o : Ordering) → (o ≡ Less → ⊥) → pick o (some e) (firstAbove k R) (firstAbove k R) ≡ firstAbove k R
+    at Less n = absurd (n refl)
+    at Equal n = refl
+    at Greater n = refl
+above-past k (x ∷ L) e R b h = rw (notLt-gt k (e .key) (x .key) h (b .0)) (above-past k L e R (b .1) h)
+
+pub next-above : (k : Key) (t : Tree) → Sorted (entries t) → nextEntry k t ≡ firstAbove k (entries t)
+unfolding nextEntry firstAbove
+next-above k nil s = refl
+next-above k (node c e l r) s =
+    at (cmp k (e .key)) refl (next-above k l (sorted-left (entries l) (e ∷ entries r) s)) (next-above k r (sorted-right (entries l) (e ∷ entries r) s .1))
+  where
+    past : NotLt k (e .key) → firstAbove k (entries l ++ (e ∷ entries r)) ≡ firstAbove k (entries r)
+    past n = above-past k (entries l) e (entries r) (sorted-below (entries l) e (entries r) s) n
+
+    at : (o : Ordering) → cmp k (e .key) ≡ o → nextEntry k l ≡ firstAbove k (entries l) → nextEntry k r ≡ firstAbove k (entries r)
+        → pick o (orEntry (nextEntry k l) (some e)) (nextEntry k r) (nextEntry k r) ≡ firstAbove k (entries l ++ (e ∷ entries r))
+    at Less q p₁ p₂ = ap (λ (o : Option Entry). orEntry o (some e)) p₁ ∙ sym (above-left k (entries l) e (entries r) q)
+    at Equal q p₁ p₂ = p₂ ∙ sym (past (eq-notLt k (e .key) q))
+    at Greater q p₁ p₂ = p₂ ∙ sym (past (gt-notLt k (e .key) q))
+
+-- above a key of the list stands the entry that follows it
+pub above-follows : (L : List Entry) (e : Entry) (R : List Entry) → Sorted (L ++ (e ∷ R)) → firstAbove (e .key) (L ++ (e ∷ R)) ≡ headOf R
+unfolding firstAbove
+above-follows L e R s =
+    above-past (e .key) L e R (sorted-below L e R s) (eq-notLt (e .key) (e .key) (cmp-refl (e .key))) ∙ first-of R (sorted-right L (e ∷ R) s .0)
+  where
+    first-of : (M : List Entry) → Above (e .key) M → firstAbove (e .key) M ≡ headOf M
+    first-of [] a = refl
+    first-of (x ∷ M) a = rw (a .0)
+
+pub next-follows : (t : Tree) (L : List Entry) (e : Entry) (R : List Entry) → Sorted (entries t) → entries t ≡ L ++ (e ∷ R) → nextEntry (e .key) t ≡ headOf R
+next-follows t L e R s p = next-above (e .key) t s ∙ (ap (firstAbove (e .key)) p ∙ above-follows L e R (rw p at s))
+
+-- ---- as a loop
+
+or-some : (x b : Option Entry) (y : Entry) → orEntry x (some y) ≡ orEntry (orEntry x (some y)) b
+or-some none b y = refl
+or-some (some x) b y = refl
+
+pub next-loop : (k : Key) (b : Option Entry) (t : Tree) → nextLoop k b t ≡ orEntry (nextEntry k t) b
+unfolding nextLoop nextEntry
+next-loop k b nil = refl
+next-loop k b (node c e l r) = at (cmp k (e .key)) (next-loop k (some e) l ∙ or-some (nextEntry k l) b e) (next-loop k b r)
+  where
+    at : (o : Ordering) → nextLoop k (some e) l ≡ orEntry (orEntry (nextEntry k l) (some e)) b → nextLoop k b r ≡ orEntry (nextEntry k r) b
+        → pick o (nextLoop k (some e) l) (nextLoop k b r) (nextLoop k b r) ≡ orEntry (pick o (orEntry (nextEntry k l) (some e)) (nextEntry k r) (nextEntry k r)) b
+    at Less p q = p
+    at Equal p q = q
+    at Greater p q = q

@@ -1,0 +1,21 @@
+-- The laws of the tree. Results: Laws, History, Maps, Height, Freed, Safe. The rest is on the way to them.
+pub mod Shape
+pub mod Laws
+pub mod InsertShape
+pub mod Lists
+pub mod Same
+pub mod Freed
+pub mod DeleteMin
+pub mod DeleteGo
+pub mod Get
+pub mod CutFacts
+pub mod Insert
+pub mod Modify
+pub mod Height
+pub mod Delete
+pub mod History
+pub mod Maps
+pub mod Iterate
+pub mod Replace
+pub mod Subtrees
+pub mod Safe

@@ -1,0 +1,37 @@
+//! The Rust's rb_tree behind the public calls of document 01, to hold our own implementation beside it.
+//!
+//!     oracle calls                 answers a script of `calls` on standard input, a line for each line
+//!     oracle script SEED LINES     writes a random script
+//!
+//! rb_tree/mod.rs is the customer's file, unchanged; `hash_tree` is a stand-in written from the Interface Specification.
+mod calls;
+mod hash_tree;
+#[allow(dead_code)]
+#[path = "rust_map.rs"]
+mod rb_tree;
+mod script;
+mod sha256;
+mod store;
+
+use hash_tree::{empty, labeled, leaf, pruned, HashTree, HashTreeNode};
+use std::io::{BufRead, BufWriter, Write};
+
+fn main() {
+    let words: Vec<String> = std::env::args().skip(1).collect();
+    let words: Vec<&str> = words.iter().map(String::as_str).collect();
+    let mut out = BufWriter::new(std::io::stdout().lock());
+    match words[..] {
+        ["calls"] => {
+            let mut calls = calls::Calls::new();
+            for line in std::io::stdin().lock().split(b'\n') {
+                writeln!(out, "{}", calls.answer(&line.unwrap())).unwrap();
+            }
+        }
+        ["script", seed, lines] => {
+            for line in script::script(seed.parse().unwrap(), lines.parse().unwrap()) {
+                writeln!(out, "{line}").unwrap();
+            }
+        }
+        _ => eprintln!("usage: oracle calls < SCRIPT; oracle script SEED LINES"),
+    }
+}

@@ -1,0 +1,161 @@
+//! Random scripts for `calls`: histories on stores of many capacities, with keys that share fronts, lie side by side or are
+//! extreme, refused calls among them, every witness call at present, absent and extreme bounds, and damaged stores.
+use crate::calls::hex;
+
+pub struct Random(u64);
+
+impl Random {
+    pub fn new(seed: u64) -> Random {
+        Random(seed.wrapping_mul(0x9e37_79b9_7f4a_7c15) ^ 0x2545_f491_4f6c_dd1d)
+    }
+
+    pub fn below(&mut self, n: usize) -> usize {
+        self.0 ^= self.0 << 13;
+        self.0 ^= self.0 >> 7;
+        self.0 ^= self.0 << 17;
+        (self.0.wrapping_mul(0x2545_f491_4f6c_dd1d) >> 33) as usize % n
+    }
+
+    fn chance(&mut self, one_in: usize) -> bool {
+        self.below(one_in) == 0
+    }
+
+    fn bytes(&mut self, n: usize) -> Vec<u8> {
+        (0..n).map(|_| self.below(256) as u8).collect()
+    }
+}
+
+struct Keys {
+    used: Vec<Vec<u8>>,
+    letters: usize,
+    longest: usize,
+}
+
+impl Keys {
+    fn fresh(&self, r: &mut Random) -> Vec<u8> {
+        let n = r.below(self.longest + 1);
+        (0..n).map(|_| [0x61, 0x62, 0x00, 0xff, 0x7f, 0x80][r.below(self.letters)]).collect()
+    }
+
+    /// A key that was used, one beside it, a new one, or an extreme one.
+    fn any(&mut self, r: &mut Random) -> Vec<u8> {
+        if !self.used.is_empty() && !r.chance(3) {
+            let mut key = self.used[r.below(self.used.len())].clone();
+            match r.below(8) {
+                0 => key.push(0),
+                1 => {
+                    key.pop();
+                }
+                2 => {
+                    if let Some(last) = key.last_mut() {
+                        *last = last.wrapping_add(1);
+                    }
+                }
+                _ => (),
+            }
+            return key;
+        }
+        match r.below(40) {
+            0 => vec![],
+            1 => vec![0xff; 48],
+            2 => r.bytes(48),
+            3 => r.bytes(49),
+            4 => {
+                let n = 49 + r.below(30);
+                r.bytes(n)
+            }
+            _ => self.fresh(r),
+        }
+    }
+
+    fn value(&self, r: &mut Random) -> Vec<u8> {
+        let n = [0, 1, 2, 3, 4, 8, 31, 32, 33, 63, 64, 64, 65, 90][r.below(14)];
+        r.bytes(n)
+    }
+}
+
+fn query(r: &mut Random, keys: &mut Keys) -> String {
+    let a = keys.any(r);
+    match r.below(14) {
+        0 => "first".into(),
+        1 => format!("next {}", hex(&a)),
+        2 => "count".into(),
+        3 => "empty".into(),
+        4 => "root".into(),
+        5 => "keys".into(),
+        6 => "full".into(),
+        7 => format!("witness {}", hex(&a)),
+        8 | 9 | 10 | 11 => {
+            let b = keys.any(r);
+            let (a, b) = if a > b && !r.chance(8) { (b, a) } else { (a, b) };
+            format!("{} {} {}", ["krange", "vrange"][r.below(2)], hex(&a), hex(&b))
+        }
+        12 => format!("prefix {}", hex(&a[..r.below(a.len() + 1)])),
+        _ => format!("get {}", hex(&a)),
+    }
+}
+
+/// A script of about so many lines.
+pub fn script(seed: u64, lines: usize) -> Vec<String> {
+    let mut r = Random::new(seed);
+    let mut out: Vec<String> = vec![];
+    while out.len() < lines {
+        let capacity = match r.below(12) {
+            0 => 1,
+            1 => 2 + r.below(3),
+            2..=7 => 4 + r.below(30),
+            8..=10 => 40 + r.below(160),
+            _ => 1024,
+        };
+        let length = 8 + 150 * capacity;
+        if r.chance(4) {
+            out.push(format!("buffer {}", length + [1, 150, 8][r.below(3)]));
+            out.push(format!("create {capacity}"));
+            out.push(format!("create {}", [0, 1025, u64::MAX as usize, 2047, 122_978_293_824_730_345][r.below(5)]));
+        }
+        out.push(format!("buffer {length}"));
+        out.push("count".into());
+        out.push(format!("create {capacity}"));
+        out.push(format!("room {}", [131_072, 131_072, 131_072, 131_072, 131_072, 2, 34, 200, 2_000][r.below(9)]));
+        let mut keys = Keys { used: vec![], letters: 2 + r.below(5), longest: [2, 3, 5, 9, 50][r.below(5)] };
+        let steps = if capacity == 1024 { 2600 } else { 12 * capacity.min(90) + 30 };
+        let mut grow = true;
+        for step in 0..steps {
+            if step % (steps / 3 + 1) == 0 && step > 0 {
+                grow = !grow;
+            }
+            let key = keys.any(&mut r);
+            let write = match r.below(10) {
+                0 => format!("modify {} {}", hex(&key), hex(&keys.value(&mut r))),
+                n if (n < 7) == grow => {
+                    if key.len() <= 48 {
+                        keys.used.push(key.clone());
+                    }
+                    format!("insert {} {}", hex(&key), hex(&keys.value(&mut r)))
+                }
+                _ => format!("delete {}", hex(&key)),
+            };
+            out.push(write);
+            if capacity <= 40 || r.chance(20) {
+                out.push("sum".into());
+            }
+            if r.chance(3) {
+                let q = query(&mut r, &mut keys);
+                if capacity <= 200 || !(q == "keys" || q == "full") || r.chance(20) {
+                    out.push(q);
+                }
+            }
+        }
+        out.push("root".into());
+        for _ in 0..r.below(6) {
+            out.push(format!("poke {} {}", r.below(length), hex(&[r.below(256) as u8])));
+            for _ in 0..3 {
+                out.push(query(&mut r, &mut keys));
+            }
+            out.push("insert 61 62".into());
+            out.push("sum".into());
+        }
+    }
+    out.truncate(lines);
+    out
+}
