@@ -2,6 +2,8 @@
 //! can't be had. It has what `rb_tree` uses, and the written form of document 01.
 use crate::sha256::sha256;
 use std::borrow::Cow;
+use std::cell::RefCell;
+use std::collections::HashMap;
 
 pub type Hash = [u8; 32];
 
@@ -25,20 +27,51 @@ fn tag(text: &str) -> Vec<u8> {
     bytes
 }
 
+thread_local! {
+    /// What was hashed to get a digest, where `remember` was called.
+    static TERMS: RefCell<Option<HashMap<Hash, String>>> = const { RefCell::new(None) };
+}
+
+/// From here on each digest is kept with what was hashed to get it.
+pub fn remember() {
+    TERMS.set(Some(HashMap::new()));
+}
+
+/// A digest as what it is the hash of, in the words of crates/hash_tree/specs.
+pub fn term(digest: &Hash) -> String {
+    TERMS.with_borrow(|terms| terms.as_ref().unwrap()[digest].clone())
+}
+
+fn kept(digest: Hash, say: impl FnOnce() -> String) -> Hash {
+    if TERMS.with_borrow(|terms| terms.is_some()) {
+        let said = say();
+        TERMS.with_borrow_mut(|terms| terms.as_mut().unwrap().insert(digest, said));
+    }
+    digest
+}
+
+pub fn list(bytes: &[u8]) -> String {
+    let items: String = bytes.iter().map(|b| format!("{b} ∷ ")).collect();
+    format!("({items}[])")
+}
+
 pub fn fork_hash(l: &Hash, r: &Hash) -> Hash {
-    sha256(&[&tag("ic-hashtree-fork"), l, r])
+    let digest = sha256(&[&tag("ic-hashtree-fork"), l, r]);
+    kept(digest, || format!("(forkHash {} {})", term(l), term(r)))
 }
 
 pub fn labeled_hash(label: &[u8], child: &Hash) -> Hash {
-    sha256(&[&tag("ic-hashtree-labeled"), label, child])
+    let digest = sha256(&[&tag("ic-hashtree-labeled"), label, child]);
+    kept(digest, || format!("(labeledHash {} {})", list(label), term(child)))
 }
 
 pub fn leaf_hash(value: &[u8]) -> Hash {
-    sha256(&[&tag("ic-hashtree-leaf"), value])
+    let digest = sha256(&[&tag("ic-hashtree-leaf"), value]);
+    kept(digest, || format!("(leafHash {})", list(value)))
 }
 
 pub fn empty_hash() -> Hash {
-    sha256(&[&tag("ic-hashtree-empty")])
+    kept(sha256(&[&tag("ic-hashtree-empty")]), || "emptyHash".into())
 }
 
 pub fn empty() -> HashTree {

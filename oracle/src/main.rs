@@ -2,9 +2,12 @@
 //!
 //!     oracle calls                 answers a script of `calls` on standard input, a line for each line
 //!     oracle script SEED LINES     writes a random script
+//!     oracle cases trees           writes crates/cases/proofs/Trees.antt
+//!     oracle cases witnesses       writes crates/cases/proofs/Witnesses.antt
 //!
 //! rb_tree/mod.rs is the customer's file, unchanged; `hash_tree` is a stand-in written from the Interface Specification.
 mod calls;
+mod cases;
 mod hash_tree;
 #[allow(dead_code)]
 #[path = "rust_map.rs"]
@@ -32,6 +35,14 @@ fn main() {
                 writeln!(out, "{line}").unwrap();
             }
         }
-        _ => eprintln!("usage: oracle calls < SCRIPT; oracle script SEED LINES"),
+        ["cases", what] => {
+            hash_tree::remember();
+            if what == "trees" {
+                cases::trees()
+            } else {
+                cases::witnesses()
+            }
+        }
+        _ => eprintln!("usage: oracle calls < SCRIPT; oracle script SEED LINES; oracle cases trees|witnesses"),
     }
 }
