@@ -1,4 +1,3 @@
--- What the definitions compute: the starred examples of document 01, and histories and witnesses as the Rust gave them.
-pub mod Examples
+-- What the definitions compute: histories and witnesses, as the Rust gave them.
 pub mod Trees
 pub mod Witnesses

@@ -2,7 +2,7 @@
 use Prim.Native.Nat.{ℕ, zero, suc, _+_, _-_, _<_, _≤_}
 use mathlib.Core.Path.{_≡_, refl, sym, ap, subst, _∙_}
 use mathlib.Core.Bool.{Bool, true, false}
-use mathlib.Core.List.{List, [], _∷_, _++_}
+use mathlib.Core.List.{List, [], _∷_}
 use native.Mathlib.Omega.{arith}
 use native.Mathlib.Numerals.{sub-one}
 use native.Mathlib.Nat.{le-refl}
@@ -13,10 +13,10 @@ use borrow.Author.Tests.{leb-true, leb-false}
 use Rattle.hash_tree.specs.declared.Record.{Record}
 use Rattle.hash_tree.specs.declared.Record.the-variants.{Whole, Malformed}
 use Rattle.hash_tree.specs.declared.Step.{Step}
-use Rattle.hash_tree.specs.HashTree.{HashTree, Empty, Fork, Labeled, Leaf, Pruned, digest}
+use Rattle.hash_tree.specs.HashTree.{HashTree, digest}
 use Rattle.hash_tree.specs.Record.{recordOf, Opens, kindOf, lenOf, least, most}
 use Rattle.hash_tree.specs.Parse.{Parsed, Got, Bad, parse, grow, byKind, labeled, forked, fork}
-use Rattle.hash_tree.specs.Steps.{badStep, goodStep, stepOf, joinFork, joinLabeled, singleStep}
+use Rattle.hash_tree.specs.Steps.{badStep, stepOf, joinFork, joinLabeled, singleStep}
 use Rattle.hash_tree.specs.RecordLaws.{View, whole, bad, view}
 use Rattle.hash_tree.specs.Whole.{alone, accepted, refused}
 

@@ -11,7 +11,7 @@ use lib.Dec.{leb}
 use borrow.Author.Tests.{leb-true, leb-false}
 use Rattle.hash_tree.specs.HashTree.{HashTree, Empty, Fork, Labeled, Leaf, Pruned}
 use Rattle.hash_tree.specs.Written.{write, piece, depth, Lengths, maxLabel}
-use Rattle.hash_tree.specs.Parse.{Parsed, Got, Bad, parse, labeled, forked, fork}
+use Rattle.hash_tree.specs.Parse.{Bad, parse, fork}
 use Rattle.hash_tree.specs.ParseLaws.{parse-write, parse-fork, parse-labeled}
 
 parse-zero : (xs : List ℕ) → parse 0 xs ≡ Bad

@@ -1,16 +1,11 @@
 -- Digests are 32 bytes. Assumes nothing.
 use Prim.Native.Nat.{ℕ}
-use mathlib.Core.Path.{_≡_, refl}
+use mathlib.Core.Path.{_≡_}
 use mathlib.Core.List.{List}
 use lib.ListN.{length}
-use Rattle.sha256.specs.Hash.{sha256, digest as hashBytes}
-use Rattle.sha256.specs.Words.{bytesOf}
+use Rattle.sha256.proofs.Length.{sha256-length}
 use Rattle.hash_tree.specs.HashTree.{HashTree, Empty, Fork, Labeled, Leaf, Pruned, Digest, emptyHash, forkHash, labeledHash, leafHash, digest}
 use Rattle.hash_tree.specs.Written.{Lengths, digestLen}
-
-sha256-length : (m : List ℕ) → length (sha256 m) ≡ 32
-unfolding sha256 hashBytes bytesOf
-sha256-length m = refl
 
 pub emptyHash-length : length emptyHash ≡ digestLen
 unfolding emptyHash

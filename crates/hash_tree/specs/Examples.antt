@@ -1,9 +1,8 @@
 -- Worked examples of the written form, as tables, each under one claim that antt computes. Digests stay shut. Assumes nothing.
 use Prim.Native.Nat.{ℕ, zero, suc, _-_}
 use mathlib.Core.Path.{_≡_, refl}
-use mathlib.Core.List.{List, [], _∷_, _++_}
+use mathlib.Core.List.{List, [], _∷_}
 use lib.ListN.{replicate}
-use Rattle.hash_tree.specs.declared.Rebuilt.{Rebuilt}
 use Rattle.hash_tree.specs.HashTree.{HashTree, Empty, Fork, Labeled, Leaf, Pruned, digest}
 use Rattle.hash_tree.specs.Written.{piece, write, maxDepth}
 use Rattle.hash_tree.specs.Record.{recordOf, least, most}

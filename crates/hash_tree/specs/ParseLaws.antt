@@ -1,18 +1,17 @@
 -- The laws of the parse. A tree written and then parsed comes back, with the rest; what parses is what was written, and is lawful; so no
 -- written form is the front of another. Assumes nothing.
 use Prim.Native.Nat.{ℕ, zero, suc, _+_, _-_, _<_, _≤_, max}
-use mathlib.Core.Path.{_≡_, refl, sym, ap, _∙_}
+use mathlib.Core.Path.{_≡_, refl, ap}
 use mathlib.Core.List.{List, [], _∷_, _++_, append-assoc}
 use native.Mathlib.Omega.{arith}
-use native.Mathlib.Nat.{not-suc-le-zero, le-max-left, le-max-right, max-le, le-trans}
-use lib.ListN.{length, take, drop, getD, length-append}
+use native.Mathlib.Nat.{not-suc-le-zero, le-max-left, le-max-right, max-le}
+use lib.ListN.{length, take, drop, length-append}
 use lib.Seq.{getD-drop, getD-append-add, take-at, drop-at}
 use lib.Dec.{lit≤, lit<}
 use Rattle.hash_tree.specs.declared.Record.{Record}
-use Rattle.hash_tree.specs.declared.Record.the-variants.{Whole, Malformed}
 use Rattle.hash_tree.specs.HashTree.{HashTree, Empty, Fork, Labeled, Leaf, Pruned}
-use Rattle.hash_tree.specs.Written.{write, piece, head, size, depth, Lengths, Lawful, maxLabel, maxValue, digestLen}
-use Rattle.hash_tree.specs.Record.{recordOf, Opens, kindOf, lenOf, least, most}
+use Rattle.hash_tree.specs.Written.{write, piece, size, depth, Lengths, Lawful, maxLabel, maxValue, digestLen}
+use Rattle.hash_tree.specs.Record.{recordOf, kindOf, lenOf, least, most}
 use Rattle.hash_tree.specs.Parse.{Parsed, Got, Bad, parse, grow, byKind, labeled, forked, fork, Bytes}
 use Rattle.hash_tree.specs.RecordLaws.{View, whole, bad, view, piece-opens, body-length, piece-back}
 

@@ -1,13 +1,13 @@
 -- What `rebuilt` promises, in words of the format: it accepts the written form of each lawful tree, with its digest, and nothing else.
 -- Assumes nothing.
 use Prim.Native.Nat.{ℕ, suc, _≤_}
-use mathlib.Core.Path.{_≡_, refl, ap, _∙_}
+use mathlib.Core.Path.{_≡_, refl, _∙_}
 use mathlib.Core.Logic.{_⊎_, inl, inr}
 use mathlib.Core.List.{List, [], _∷_, _++_, append-nil}
 use native.Mathlib.Omega.{arith}
 use lib.ListN.{length}
 use Rattle.hash_tree.specs.declared.Rebuilt.{Rebuilt}
-use Rattle.hash_tree.specs.HashTree.{HashTree, Empty, Fork, Labeled, Leaf, Pruned, digest}
+use Rattle.hash_tree.specs.HashTree.{HashTree, digest}
 use Rattle.hash_tree.specs.Written.{write, piece, Lengths, Lawful, maxDepth, maxLabel}
 use Rattle.hash_tree.specs.Parse.{Parsed, Got, Bad, parse, Bytes}
 use Rattle.hash_tree.specs.Whole.{alone, rebuilt, accepted, refused}

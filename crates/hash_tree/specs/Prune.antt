@@ -1,7 +1,7 @@
 -- A tree with some of its parts pruned has the tree's digest. Assumes nothing.
 use Prim.Native.Nat.{ℕ}
-use mathlib.Core.Path.{_≡_, refl, sym, ap, _∙_}
-use mathlib.Core.List.{List, [], _∷_, _++_}
+use mathlib.Core.Path.{_≡_, refl}
+use mathlib.Core.List.{List}
 use Rattle.hash_tree.specs.HashTree.{HashTree, Fork, Labeled, Pruned, digest}
 
 -- u is t with some of its parts pruned

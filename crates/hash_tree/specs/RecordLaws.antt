@@ -1,5 +1,5 @@
 -- The laws of a record: what `recordOf` says, read back as facts; the same at a place of a slice, in the code's words. Assumes nothing.
-use Prim.Native.Nat.{ℕ, zero, suc, _+_, _-_, _*_, _/_, _%_, _<_, _≤_}
+use Prim.Native.Nat.{ℕ, _+_, _-_, _*_, _/_, _%_, _<_, _≤_}
 use mathlib.Core.Path.{_≡_, refl, sym, ap, ap₂, _∙_}
 use mathlib.Core.Bool.{Bool, true, false}
 use mathlib.Core.List.{List, [], _∷_, _++_}
@@ -7,7 +7,7 @@ use native.Mathlib.Omega.{arith}
 use native.Mathlib.Nat.{add-zero, not-suc-le-zero}
 use lib.ListN.{length, take, drop, getD, length-append, length-drop, take-append-drop}
 use lib.Seq.{getD-drop, length-take-le}
-use lib.Dec.{leb, ltb, eqb, lit<}
+use lib.Dec.{eqb, lit<}
 use borrow.Author.Tests.{leb-true, leb-false, ltb-true, ltb-false}
 use Rattle.hash_tree.specs.declared.Record.{Record}
 use Rattle.hash_tree.specs.declared.Record.the-variants.{Whole, Malformed}

@@ -1,14 +1,12 @@
 -- What it means that one entry of a key is taken out.
 -- Assumes nothing.
-use mathlib.Core.Path.{_≡_, refl, sym, ap, _∙_, subst}
-use mathlib.Core.List.{List, [], _∷_, _++_}
+use mathlib.Core.Path.{_≡_, ap}
+use mathlib.Core.List.{List, _∷_}
 use Prim.Native.Nat.{ℕ}
-use Rattle.key_order.specs.declared.Ordering.{Ordering}
 use Rattle.key_order.specs.declared.Ordering.the-variants.{Less, Equal, Greater}
-use Rattle.key_order.specs.Order.{Key, cmp, pick}
-use Rattle.llrb.specs.Tree.{Value, Entry}
-use Rattle.llrb.specs.Delete.{moved}
-use Rattle.llrb.specs.Sorted.{Above, Sorted, Mem, Cut, gone, over, skip}
+use Rattle.key_order.specs.Order.{Key, cmp}
+use Rattle.llrb.specs.Tree.{Entry}
+use Rattle.llrb.specs.Sorted.{Above, Sorted, Cut, gone, over, skip}
 use Rattle.llrb.specs.Map.{Pair, pair, pairs, slots, drop, Without, here, next}
 use Rattle.key_order.proofs.Laws.{cmp-refl, lt-gt}
 

@@ -1,15 +1,14 @@
 -- delete, from the root.
 -- Assumes nothing.
-use mathlib.Core.Path.{_≡_, refl, sym, ap, _∙_, subst}
+use mathlib.Core.Path.{_≡_, refl, sym, _∙_}
 use mathlib.Core.Logic.{_⊎_, inl, inr}
-use mathlib.Core.Bool.{Bool, true, false}
+use mathlib.Core.Bool.{true, false}
 use mathlib.Core.Option.{Option, none, some}
-use mathlib.Core.List.{List, [], _∷_, _++_}
-use Prim.Native.Nat.{ℕ, zero, suc, _≤_}
+use Prim.Native.Nat.{ℕ}
 use native.Mathlib.Nat.{le-refl}
 use lib.ListN.{length}
 use Rattle.key_order.specs.Order.{Key}
-use Rattle.llrb.specs.Tree.{Value, Entry, Tree, nil, node, entries, size, get, paint}
+use Rattle.llrb.specs.Tree.{Entry, Tree, node, entries, size, get, paint}
 use Rattle.llrb.specs.Delete.{deleteGo, ready, deleteFound, delete, freed}
 use Rattle.llrb.specs.Sorted.{Sorted, Mem, Cut}
 use Rattle.llrb.proofs.Freed.{freedGo, freedDown, freed-down}

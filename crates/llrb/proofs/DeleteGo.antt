@@ -1,8 +1,8 @@
 -- delete keeps the shape and takes out one entry of the key.
 -- Assumes nothing.
-use mathlib.Core.Path.{_≡_, refl, sym, ap, _∙_, subst}
+use mathlib.Core.Path.{_≡_, refl, ap, subst}
 use mathlib.Core.Bool.{Bool, true, false}
-use mathlib.Core.Logic.{_⊎_, inl, inr}
+use mathlib.Core.Logic.{inl}
 use mathlib.Core.List.{List, [], _∷_, _++_, append-assoc}
 use Prim.Native.Nat.{ℕ, zero, suc, _≤_}
 use native.Mathlib.Omega.{arith}
@@ -12,13 +12,13 @@ use Rattle.key_order.specs.declared.Ordering.the-variants.{Less, Equal, Greater
 use Rattle.key_order.specs.Order.{Key, pick, cmp}
 use Rattle.llrb.specs.Tree.{Entry, Tree, nil, node, entries, balance, left}
 use Rattle.llrb.specs.Delete.{readyLeft, readyRight, leanRight, goRight, takeRight, deleteMin, deleteGo, least, moved, onLeft}
-use Rattle.llrb.specs.Sorted.{Above, Below, Sorted, Mem, Cut, gone, over, skip}
+use Rattle.llrb.specs.Sorted.{Mem, Cut, gone, over, skip}
 use Rattle.llrb.proofs.Freed.{freedGo, freedTake, freedRight}
 use Rattle.key_order.proofs.Laws.{cmp-eq, cmp-trans, NotLt, notLt-gt, gt-notLt, lt≢eq, lt≢gt}
-use Rattle.llrb.proofs.Lists.{Ok, ok-left, ok-right, cut-left, cut-right, row}
+use Rattle.llrb.proofs.Lists.{arms₂, Ok, ok-left, ok-right, cut-left, cut-right, row}
 use Rattle.llrb.proofs.Shape.{Llrb, leaf, red, black, Any, any, bal-left, bal-right, bal-any, bal-red}
-use Rattle.llrb.proofs.Same.{same-balance, same-readyLeft}
-use Rattle.llrb.proofs.DeleteMin.{LeftRed, leftRed, Shorter, MinIH, deleteMin-ok, least-is, not-empty}
+use Rattle.llrb.proofs.Same.{same-balance}
+use Rattle.llrb.proofs.DeleteMin.{LeftRed, leftRed, Shorter, deleteMin-ok, least-is, not-empty}
 
 -- a black root with a red right child, whose key is not above `k`
 pub data RightRed (k : Key) : ℕ → Tree → Type 0 where
@@ -115,56 +115,50 @@ module _ (f : ℕ) (k : Key) (ih : DelIH f k) where
   right-RB : {t : Tree} {n : ℕ} (x : Entry) {l r : Tree} → Llrb false n l → LeftRed n r → entries t ≡ entries (node true x l r)
       → NotLt k (x .key) → Ok (suc f) k (entries t)
       → DelAny k (freedTake k (λ t. freedGo f k t) (node true x l r)) n t (balance (takeRight k (λ t. deleteGo f k t) (λ t. deleteMin f t) (node true x l r)))
-  right-RB {t} {n} x {l} {r} pl pr p q o = at (cmp k (x .key)) refl
-    where
-      at : (u : Ordering) → cmp k (x .key) ≡ u
-          → DelAny k (pick u (freedGo f k r) ((least x r) .slot) (freedGo f k r)) n t (balance (pick u (node true x l (deleteGo f k r)) (node true (moved x (least x r)) l (deleteMin f r)) (node true x l (deleteGo f k r))))
-      at Less e = absurd (q e)
-      at Equal e =
-          let i = deleteMin-ok f .b pr (fits-right (entries t) (entries l) x (entries r) p (o .fits)) in
-          record {
-            shape = any (bal-red (moved x (least x r)) pl (i .shape));
-            cut = cut-min t true x l r (deleteMin f r) p (cmp-eq k (x .key) e) (i .less);
-          }
-      at Greater e =
-          let i = ih .b pr (ok-right (entries l) x (entries r) (subst (Ok (suc f) k) p o) e) in
-          record { shape = any (bal-red x pl (i .shape)); cut = cut-go t true x l r (deleteGo f k r) p (i .cut) }
+  right-RB {t} {n} x {l} {r} pl pr p q o =
+      arms₂ (λ s u. DelAny k s n t (balance u)) (cmp k (x .key))
+      (λ e. absurd (q e))
+      (λ e.
+      let i = deleteMin-ok f .b pr (fits-right (entries t) (entries l) x (entries r) p (o .fits)) in
+      record {
+        shape = any (bal-red (moved x (least x r)) pl (i .shape));
+        cut = cut-min t true x l r (deleteMin f r) p (cmp-eq k (x .key) e) (i .less);
+      })
+      (λ e.
+      let i = ih .b pr (ok-right (entries l) x (entries r) (subst (Ok (suc f) k) p o) e) in
+      record { shape = any (bal-red x pl (i .shape)); cut = cut-go t true x l r (deleteGo f k r) p (i .cut) })
 
   right-BR : {t : Tree} {c : Bool} {n : ℕ} (x : Entry) {l r : Tree} → Llrb c n l → Llrb true n r → entries t ≡ entries (node false x l r)
       → NotLt k (x .key) → Ok (suc f) k (entries t)
       → DelAny k (freedTake k (λ t. freedGo f k t) (node false x l r)) (suc n) t (balance (takeRight k (λ t. deleteGo f k t) (λ t. deleteMin f t) (node false x l r)))
-  right-BR {t} {n} x {l} {r} pl pr p q o = at (cmp k (x .key)) refl
-    where
-      at : (u : Ordering) → cmp k (x .key) ≡ u
-          → DelAny k (pick u (freedGo f k r) ((least x r) .slot) (freedGo f k r)) (suc n) t (balance (pick u (node false x l (deleteGo f k r)) (node false (moved x (least x r)) l (deleteMin f r)) (node false x l (deleteGo f k r))))
-      at Less e = absurd (q e)
-      at Equal e =
-          let i = deleteMin-ok f .r pr (fits-right (entries t) (entries l) x (entries r) p (o .fits)) in
-          record {
-            shape = any-any-right (moved x (least x r)) pl (i .shape);
-            cut = cut-min t false x l r (deleteMin f r) p (cmp-eq k (x .key) e) (i .less);
-          }
-      at Greater e =
-          let i = ih .r pr (ok-right (entries l) x (entries r) (subst (Ok (suc f) k) p o) e) in
-          record { shape = any-any-right x pl (i .shape); cut = cut-go t false x l r (deleteGo f k r) p (i .cut) }
+  right-BR {t} {n} x {l} {r} pl pr p q o =
+      arms₂ (λ s u. DelAny k s (suc n) t (balance u)) (cmp k (x .key))
+      (λ e. absurd (q e))
+      (λ e.
+      let i = deleteMin-ok f .r pr (fits-right (entries t) (entries l) x (entries r) p (o .fits)) in
+      record {
+        shape = any-any-right (moved x (least x r)) pl (i .shape);
+        cut = cut-min t false x l r (deleteMin f r) p (cmp-eq k (x .key) e) (i .less);
+      })
+      (λ e.
+      let i = ih .r pr (ok-right (entries l) x (entries r) (subst (Ok (suc f) k) p o) e) in
+      record { shape = any-any-right x pl (i .shape); cut = cut-go t false x l r (deleteGo f k r) p (i .cut) })
 
   right-BB : {t : Tree} {n : ℕ} (x : Entry) {l r : Tree} → Llrb false n l → Llrb true n r → entries t ≡ entries (node false x l r)
       → NotLt k (x .key) → Ok (suc f) k (entries t)
       → DelBlack k (freedTake k (λ t. freedGo f k t) (node false x l r)) (suc n) t (balance (takeRight k (λ t. deleteGo f k t) (λ t. deleteMin f t) (node false x l r)))
-  right-BB {t} {n} x {l} {r} pl pr p q o = at (cmp k (x .key)) refl
-    where
-      at : (u : Ordering) → cmp k (x .key) ≡ u
-          → DelBlack k (pick u (freedGo f k r) ((least x r) .slot) (freedGo f k r)) (suc n) t (balance (pick u (node false x l (deleteGo f k r)) (node false (moved x (least x r)) l (deleteMin f r)) (node false x l (deleteGo f k r))))
-      at Less e = absurd (q e)
-      at Equal e =
-          let i = deleteMin-ok f .r pr (fits-right (entries t) (entries l) x (entries r) p (o .fits)) in
-          record {
-            shape = any-right (moved x (least x r)) pl (i .shape);
-            cut = cut-min t false x l r (deleteMin f r) p (cmp-eq k (x .key) e) (i .less);
-          }
-      at Greater e =
-          let i = ih .r pr (ok-right (entries l) x (entries r) (subst (Ok (suc f) k) p o) e) in
-          record { shape = any-right x pl (i .shape); cut = cut-go t false x l r (deleteGo f k r) p (i .cut) }
+  right-BB {t} {n} x {l} {r} pl pr p q o =
+      arms₂ (λ s u. DelBlack k s (suc n) t (balance u)) (cmp k (x .key))
+      (λ e. absurd (q e))
+      (λ e.
+      let i = deleteMin-ok f .r pr (fits-right (entries t) (entries l) x (entries r) p (o .fits)) in
+      record {
+        shape = any-right (moved x (least x r)) pl (i .shape);
+        cut = cut-min t false x l r (deleteMin f r) p (cmp-eq k (x .key) e) (i .less);
+      })
+      (λ e.
+      let i = ih .r pr (ok-right (entries l) x (entries r) (subst (Ok (suc f) k) p o) e) in
+      record { shape = any-right x pl (i .shape); cut = cut-go t false x l r (deleteGo f k r) p (i .cut) })
 
   -- move_red_right has turned the tree: the root's key went up to the left, and the old root is the right child
   right-turn : {t : Tree} {n : ℕ} (x e : Entry) {l a b : Tree} → Llrb false (suc n) l → Llrb false n a → Llrb true n b

@@ -8,8 +8,8 @@ use native.Mathlib.Omega.{arith}
 use lib.ListN.{length, length-append}
 use Rattle.llrb.specs.Tree.{Entry, Tree, nil, node, entries, balance}
 use Rattle.llrb.specs.Delete.{readyLeft, deleteMin, least}
-use Rattle.llrb.proofs.Shape.{Llrb, leaf, red, black, Any, any, bal-left, bal-right, bal-any, bal-red}
-use Rattle.llrb.proofs.Same.{same-balance, same-readyLeft}
+use Rattle.llrb.proofs.Shape.{Llrb, leaf, red, black, Any, any, bal-left, bal-any, bal-red}
+use Rattle.llrb.proofs.Same.{same-balance}
 
 -- a black root with a red left child
 pub data LeftRed : ℕ → Tree → Type 0 where

@@ -1,21 +1,21 @@
 -- The slot that delete frees, found on the way down that delete takes, is the slot that document 01 names on the tree before.
 -- Of every tree with sorted entries that has the key.
 -- Assumes nothing.
-use mathlib.Core.Path.{_≡_, refl, sym, ap, _∙_, subst}
+use mathlib.Core.Path.{_≡_, refl, sym, _∙_, subst}
 use mathlib.Core.Bool.{Bool, true, false, not, cond, _&&_}
 use mathlib.Core.List.{List, [], _∷_, _++_, append-assoc}
-use Prim.Native.Nat.{ℕ, zero, suc, _≤_}
+use Prim.Native.Nat.{ℕ, zero, suc}
 use native.Mathlib.Omega.{arith}
 use native.Mathlib.Nat.{le-refl}
-use lib.ListN.{length, length-append}
+use lib.ListN.{length}
 use Rattle.key_order.specs.declared.Ordering.{Ordering}
 use Rattle.key_order.specs.declared.Ordering.the-variants.{Less, Equal, Greater}
 use Rattle.key_order.specs.Order.{Key, cmp, pick}
 use Rattle.llrb.specs.Tree.{Entry, Tree, nil, node, isRed, left, right, entries, size, paint, flipAssign, flipColors, rotateLeft, rotateRight}
-use Rattle.llrb.specs.Delete.{least, moveRedLeft, moveRedLeft₂, moveRedRight, moveRedRight₂, readyLeft, readyRight, leanRight, ready, freedAt, freed}
+use Rattle.llrb.specs.Delete.{least, readyLeft, readyRight, leanRight, ready, freedAt, freed}
 use Rattle.llrb.specs.Sorted.{Sorted, Mem}
 use Rattle.key_order.proofs.Laws.{cmp-trans, NotLt, notLt-gt, gt-notLt, eq-notLt}
-use Rattle.llrb.proofs.Lists.{Ok, ok-left, ok-right, row, above-right, sorted-right}
+use Rattle.llrb.proofs.Lists.{arms, arms₂, Ok, ok-left, ok-right, row, above-right, sorted-right}
 use Rattle.llrb.proofs.Same.{same-flipAssign, same-flipColors, same-rotateRight, same-readyLeft, same-ready}
 
 -- ---- the way down: the turns of delete, and no change
@@ -67,12 +67,7 @@ colors-freed k (node c e l r) = rw (flip-freed k l, flip-at e r, flip-freed k r)
 -- where the key is not below, the left side does not matter
 past : (k : Key) (c d : Bool) (e : Entry) (l m r : Tree) → NotLt k (e .key) → freed k (node c e l r) ≡ freed k (node d e m r)
 unfolding freed
-past k c d e l m r h = at (cmp k (e .key)) h
-  where
-    at : (o : Ordering) → (o ≡ Less → ⊥) → pick o (freed k l) (freedAt e r) (freed k r) ≡ pick o (freed k m) (freedAt e r) (freed k r)
-    at Less q = absurd (q refl)
-    at Equal q = refl
-    at Greater q = refl
+past k c d e l m r h = arms₂ (λ (u v : ℕ). u ≡ v) (cmp k (e .key)) (λ q. absurd (h q)) (λ q. refl) (λ q. refl)
 
 on-right : (k : Key) (c : Bool) (e : Entry) (l r : Tree) → cmp k (e .key) ≡ Greater → freed k (node c e l r) ≡ freed k r
 unfolding freed
@@ -126,7 +121,7 @@ ready-left-top : (k : Key) (c : Bool) (e : Entry) (l r : Tree) → cmp k (e .key
 unfolding readyLeft
 ready-left-top k c e l r h s =
     let p : entries (flipAssign l) ++ (e ∷ entries (rotateRight (flipAssign r))) ≡ entries (node c e l r)
-        = rw (same-rotateRight (flipAssign r), same-flipAssign l, same-flipAssign r) in
+    = rw (same-rotateRight (flipAssign r), same-flipAssign l, same-flipAssign r) in
     cond-top (not (isRed l) && not (isRed (left l)))
     (cond-top (isRed (left (flipAssign r))) (turned-top k (not c) e (flipAssign l) (rotateRight (flipAssign r)) h (subst Sorted (sym p) s)) (top h))
     (top h)
@@ -146,13 +141,9 @@ module _ (f : ℕ) (k : Key) (ih : (t : Tree) → Ok f k (entries t) → freedGo
   take-freed : (c : Bool) (e : Entry) (l : Tree) {r : Tree} → IsNode r → NotLt k (e .key) → Ok (suc f) k (entries (node c e l r))
       → freedTake k (λ t. freedGo f k t) (node c e l r) ≡ freed k (node c e l r)
   unfolding freed
-  take-freed c e l (isNode {c = d} {e = x} {l = a} {r = b}) h o = at (cmp k (e .key)) refl
-    where
-      at : (u : Ordering) → cmp k (e .key) ≡ u
-          → pick u (freedGo f k (node d x a b)) ((least x a) .slot) (freedGo f k (node d x a b)) ≡ pick u (freed k l) ((least x a) .slot) (freed k (node d x a b))
-      at Less q = absurd (h q)
-      at Equal q = refl
-      at Greater q = ih (node d x a b) (ok-right (entries l) e (entries (node d x a b)) o q)
+  take-freed c e l (isNode {c = d} {e = x} {l = a} {r = b}) h o =
+      arms₂ (λ (u v : ℕ). u ≡ v) (cmp k (e .key))
+      (λ q. absurd (h q)) (λ q. refl) (λ q. ih (node d x a b) (ok-right (entries l) e (entries (node d x a b)) o q))
 
   -- move_red_right has turned the tree, or there was no left child to turn up
   moved-freed : (c : Bool) (e : Entry) (l : Tree) {r : Tree} → IsNode r → NotLt k (e .key) → Ok (suc f) k (entries (node c e l r))
@@ -162,7 +153,7 @@ module _ (f : ℕ) (k : Key) (ih : (t : Tree) → Ok f k (entries t) → freedGo
   moved-freed c e (node d x a b) {r} n h o =
       let q : cmp k (x .key) ≡ Greater = notLt-gt k (e .key) (x .key) h (row (entries a) x (entries b) e (entries r) (o .sorted)) in
       let o′ : Ok (suc f) k (entries (flipColors (node c x a (node true e b r))))
-          = subst (Ok (suc f) k) (append-assoc (entries a) (x ∷ entries b) (e ∷ entries r) ∙ sym (same-flipColors (node c x a (node true e b r)))) o in
+      = subst (Ok (suc f) k) (append-assoc (entries a) (x ∷ entries b) (e ∷ entries r) ∙ sym (same-flipColors (node c x a (node true e b r)))) o in
       take-freed (not c) x (flipAssign a) isNode (gt-notLt k (x .key) q) o′
       ∙ (colors-freed k (node c x a (node true e b r)) ∙ turn-freed k c d true e x a b r q h)
 
@@ -184,12 +175,8 @@ module _ (f : ℕ) (k : Key) (ih : (t : Tree) → Ok f k (entries t) → freedGo
   right-freed : (c : Bool) (e : Entry) (l r : Tree) → NotLt k (e .key) → Ok (suc f) k (entries (node c e l r))
       → freedRight k (λ t. freedGo f k t) (node c e l r) ≡ freed k (node c e l r)
   unfolding freed
-  right-freed c e l nil h o = at (cmp k (e .key)) refl
-    where
-      at : (u : Ordering) → cmp k (e .key) ≡ u → e .slot ≡ pick u (freed k l) (e .slot) zero
-      at Less q = absurd (h q)
-      at Equal q = refl
-      at Greater q = absurd (ok-right (entries l) e [] o q .mem)
+  right-freed c e l nil h o =
+      arms (λ (u : ℕ). e .slot ≡ u) (cmp k (e .key)) (λ q. absurd (h q)) (λ q. refl) (λ q. absurd (ok-right (entries l) e [] o q .mem))
   right-freed c e l (node d x a b) h o = ready-freed c e l isNode h o
 
   turned-freed : (c : Bool) (e : Entry) (l r : Tree) → NotLt k (e .key) → Ok (suc f) k (entries (node c e l r))

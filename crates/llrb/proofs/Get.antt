@@ -1,19 +1,19 @@
 -- get finds what the list of entries has.
 -- Assumes nothing.
-use mathlib.Core.Path.{_≡_, refl, sym, ap, _∙_}
-use mathlib.Core.Logic.{_⊎_, inl, inr}
-use mathlib.Core.Option.{Option, none, some, Option·map}
+use mathlib.Core.Path.{_≡_, refl, sym, _∙_}
+use mathlib.Core.Logic.{inl, inr}
+use mathlib.Core.Option.{none, some, Option·map}
 use mathlib.Core.List.{List, [], _∷_, _++_}
 use Prim.Native.Nat.{ℕ}
 use native.Mathlib.Omega.{arith}
 use Rattle.key_order.specs.declared.Ordering.{Ordering}
 use Rattle.key_order.specs.declared.Ordering.the-variants.{Less, Equal, Greater}
 use Rattle.key_order.specs.Order.{Key, cmp, pick}
-use Rattle.llrb.specs.Tree.{Value, Entry, Tree, nil, node, entries, get}
+use Rattle.llrb.specs.Tree.{Entry, Tree, nil, node, entries, get}
 use Rattle.llrb.specs.Sorted.{Above, Below, Sorted, Mem}
 use Rattle.llrb.specs.Map.{findE, find, pairs}
-use Rattle.key_order.proofs.Laws.{NotLt, notLt-gt, gt-notLt, eq-notLt, lt≢eq, lt≢gt, gt≢eq}
-use Rattle.llrb.proofs.Lists.{above-trans, sorted-left, sorted-right, sorted-below}
+use Rattle.key_order.proofs.Laws.{NotLt, notLt-gt, gt-notLt, eq-notLt, lt≢eq, gt≢eq}
+use Rattle.llrb.proofs.Lists.{arms, arms₂, above-trans, sorted-left, sorted-right, sorted-below}
 
 pub above-none : (k : Key) (L : List Entry) → Above k L → findE k L ≡ none
 unfolding findE
@@ -37,16 +37,15 @@ pub get-find : (k : Key) (t : Tree) → Sorted (entries t) → get k t ≡ findE
 unfolding get findE
 get-find k nil s = refl
 get-find k (node c e l r) s =
-    at (cmp k (e .key)) refl (get-find k l (sorted-left (entries l) (e ∷ entries r) s))
-    (get-find k r (sorted-right (entries l) (e ∷ entries r) s .1))
-  where
-    at : (o : Ordering) → cmp k (e .key) ≡ o → get k l ≡ findE k (entries l) → get k r ≡ findE k (entries r)
-        → pick o (get k l) (some e) (get k r) ≡ findE k (entries l ++ (e ∷ entries r))
-    at Less q p₁ p₂ = p₁ ∙ sym (find-left k (entries l) e (entries r) s q)
-    at Equal q p₁ p₂ =
-        sym (find-past k (entries l) e (entries r) (sorted-below (entries l) e (entries r) s) (eq-notLt k (e .key) q) ∙ rw q)
-    at Greater q p₁ p₂ =
-        p₂ ∙ sym (find-past k (entries l) e (entries r) (sorted-below (entries l) e (entries r) s) (gt-notLt k (e .key) q) ∙ rw q)
+    let L = entries l in
+    let R = entries r in
+    let il = get-find k l (sorted-left L (e ∷ R) s) in
+    let ir = get-find k r (sorted-right L (e ∷ R) s .1) in
+    let past = find-past k L e R (sorted-below L e R s) in
+    arms (λ o. o ≡ findE k (L ++ (e ∷ R))) (cmp k (e .key))
+    (λ q. il ∙ sym (find-left k L e R s q))
+    (λ q. sym (past (eq-notLt k (e .key) q) ∙ rw q))
+    (λ q. ir ∙ sym (past (gt-notLt k (e .key) q) ∙ rw q))
 
 pub find-some : (k : Key) (L : List Entry) (x : Entry) → findE k L ≡ some x → Mem k L
 unfolding findE
@@ -73,10 +72,6 @@ find-none k (e ∷ L) h m = at (cmp k (e .key)) refl h m (find-none k L)
 pub find-pairs : (k : Key) (L : List Entry) → Option·map (λ (e : Entry). e .value) (findE k L) ≡ find k (pairs L)
 unfolding findE find
 find-pairs k [] = refl
-find-pairs k (e ∷ L) = at (cmp k (e .key)) (find-pairs k L)
-  where
-    at : (o : Ordering) → Option·map (λ (e : Entry). e .value) (findE k L) ≡ find k (pairs L)
-        → Option·map (λ (e : Entry). e .value) (pick o (findE k L) (some e) (findE k L)) ≡ pick o (find k (pairs L)) (some (e .value)) (find k (pairs L))
-    at Less i = i
-    at Equal i = refl
-    at Greater i = i
+find-pairs k (e ∷ L) =
+    let i = find-pairs k L in
+    arms₂ (λ u v. Option·map (λ (x : Entry). x .value) u ≡ v) (cmp k (e .key)) (λ q. i) (λ q. refl) (λ q. i)

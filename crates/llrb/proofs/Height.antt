@@ -1,15 +1,15 @@
 -- The height of a lawful tree: 2 to the height is at most the square of the number of entries and one.
 -- Assumes nothing.
-use mathlib.Core.Path.{_≡_, refl, sym, ap, _∙_, subst}
+use mathlib.Core.Path.{_≡_}
 use mathlib.Core.Bool.{Bool, true, false}
-use mathlib.Core.List.{List, [], _∷_, _++_}
-use Prim.Native.Nat.{ℕ, zero, suc, _+_, _*_, _^_, _≤_, max}
+use mathlib.Core.List.{_∷_}
+use Prim.Native.Nat.{ℕ, suc, _+_, _*_, _^_, _≤_}
 use native.Mathlib.Omega.{arith}
 use native.Mathlib.Nat.{le-trans, le-of-eq, mul-le-mul}
 use native.Mathlib.Decide.{decLe}
-use lib.ListN.{length, length-append}
-use lib.Pow.{pow-mono, pow-add, pow-pos}
-use Rattle.llrb.specs.Tree.{Entry, Tree, nil, node, entries, size}
+use lib.ListN.{length-append}
+use lib.Pow.{pow-mono, pow-add}
+use Rattle.llrb.specs.Tree.{Entry, Tree, node, entries, size}
 use Rattle.llrb.specs.Shape.{height, Lawful}
 use Rattle.llrb.proofs.Shape.{Llrb, leaf, red, black, Good, good}
 use Rattle.llrb.proofs.Laws.{lawful-good}

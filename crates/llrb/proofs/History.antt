@@ -1,31 +1,28 @@
 -- What each operation does to a lawful tree: it stays lawful, its map, its slots; and so after any history from the empty tree.
 -- Assumes nothing.
-use mathlib.Core.Path.{_≡_, refl, sym, ap, _∙_, subst}
+use mathlib.Core.Path.{_≡_, refl, sym, ap, _∙_}
 use mathlib.Core.Logic.{_⊎_, inl, inr}
-use mathlib.Core.Bool.{Bool, true, false}
-use mathlib.Core.Option.{Option, none, some, Option·map}
-use mathlib.Core.List.{List, [], _∷_, _++_}
-use Prim.Native.Nat.{ℕ, zero, suc, _+_, _*_, _^_, _≤_}
+use mathlib.Core.Option.{Option·map}
+use mathlib.Core.List.{List, [], _∷_}
+use Prim.Native.Nat.{ℕ, suc, _*_, _^_, _≤_}
 use lib.ListN.{length}
-use Rattle.key_order.specs.declared.Ordering.{Ordering}
-use Rattle.key_order.specs.declared.Ordering.the-variants.{Less, Equal, Greater}
-use Rattle.key_order.specs.Order.{Key, cmp, pick}
-use Rattle.llrb.specs.Tree.{Value, Entry, Tree, nil, node, entries, size, get, insert, modify}
+use Rattle.key_order.specs.Order.{Key, cmp}
+use Rattle.llrb.specs.Tree.{Value, Entry, Tree, entries, size, get, insert, modify}
 use Rattle.llrb.specs.Delete.{delete, freed}
-use Rattle.llrb.specs.Sorted.{Sorted, Mem, Cut, Above}
-use Rattle.llrb.specs.Map.{Pair, pair, pairs, slots, find, findE, put, putE, drop, change, changeE, Without, here, next, Out, Distinct}
+use Rattle.llrb.specs.Sorted.{Sorted, Mem, Cut}
+use Rattle.llrb.specs.Map.{Pair, pair, pairs, slots, find, put, drop, change, Without, here, next, Out, Distinct}
 use Rattle.llrb.specs.Shape.{height, Lawful}
 use Rattle.llrb.specs.History.{Op, inserting, modifying, deleting, apply, applyMap, run, runMap, Fresh}
-use Rattle.key_order.proofs.Laws.{lt≢eq, gt≢eq}
-use Rattle.llrb.proofs.Shape.{Llrb, leaf, red, black, Good, good, Any, any}
+use Rattle.llrb.proofs.Shape.{leaf, Good, good}
 use Rattle.llrb.proofs.InsertShape.{insert-shape}
+use Rattle.llrb.proofs.Lists.{arms}
 use Rattle.llrb.proofs.Get.{get-find, find-pairs}
 use Rattle.llrb.proofs.CutFacts.{cut-sorted, cut-pairs, cut-slots}
-use Rattle.llrb.proofs.Insert.{insert-put, sorted-put, pairs-put, SlotsPut, slots-put}
+use Rattle.llrb.proofs.Insert.{insert-put, sorted-put, pairs-put, slots-put}
 use Rattle.llrb.proofs.Modify.{modify-shape, modify-change, sorted-change, pairs-change, slots-change}
 use Rattle.llrb.proofs.Laws.{lawful-good, good-lawful}
 use Rattle.llrb.proofs.Height.{lawful-height}
-use Rattle.llrb.proofs.Delete.{Deleted, delete-ok}
+use Rattle.llrb.proofs.Delete.{delete-ok}
 
 -- ---- insert
 
@@ -46,13 +43,10 @@ insert-slots x {t} i = rw (insert-put x t (i .sorted)) (slots-put x (entries t) 
 absent : (k : Key) (L : List Entry) → (Mem k L → ⊥) → drop k (pairs L) ≡ pairs L
 unfolding drop
 absent k [] h = refl
-absent k (e ∷ L) h = at (cmp k (e .key)) refl (absent k L (λ m. h (inr m)))
-  where
-    at : (o : Ordering) → cmp k (e .key) ≡ o → drop k (pairs L) ≡ pairs L
-        → _≡_ {A = List Pair} (pick o (pair e ∷ drop k (pairs L)) (pairs L) (pair e ∷ drop k (pairs L))) (pair e ∷ pairs L)
-    at Less q i = ap {B = List Pair} (λ (P : List Pair). pair e ∷ P) i
-    at Equal q i = absurd (h (inl q))
-    at Greater q i = ap {B = List Pair} (λ (P : List Pair). pair e ∷ P) i
+absent k (e ∷ L) h =
+    let i = absent k L (λ m. h (inr m)) in
+    arms (λ u. u ≡ pairs (e ∷ L)) (cmp k (e .key))
+    (λ q. ap {B = List Pair} (λ (P : List Pair). pair e ∷ P) i) (λ q. absurd (h (inl q))) (λ q. ap {B = List Pair} (λ (P : List Pair). pair e ∷ P) i)
 
 pub delete-lawful : (k : Key) {t : Tree} → Lawful t → Lawful (delete k t)
 delete-lawful k {t} i = let d = delete-ok k (lawful-good i) (i .sorted) in good-lawful (d .shape) (at (d .cut))

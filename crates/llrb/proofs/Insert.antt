@@ -7,25 +7,20 @@ use Prim.Native.Nat.{ℕ}
 use Rattle.key_order.specs.declared.Ordering.{Ordering}
 use Rattle.key_order.specs.declared.Ordering.the-variants.{Less, Equal, Greater}
 use Rattle.key_order.specs.Order.{Key, cmp, pick}
-use Rattle.llrb.specs.Tree.{Value, Entry, Tree, nil, node, entries, withValue, balance, insertGo, insert, paint}
+use Rattle.llrb.specs.Tree.{Entry, Tree, nil, node, entries, balance, withValue, insertGo, insert}
 use Rattle.llrb.specs.Sorted.{Above, Below, Sorted, Mem}
 use Rattle.llrb.specs.Map.{Pair, pair, pairs, slots, put, putE, Without, here, next}
 use Rattle.key_order.proofs.Laws.{NotLt, notLt-gt, gt-notLt, eq-notLt, gt-lt, lt≢eq, gt≢eq}
-use Rattle.llrb.proofs.Lists.{above-trans, above-not, sorted-left, sorted-right, sorted-below}
+use Rattle.llrb.proofs.Lists.{arms, arms₂, above-trans, above-not, sorted-left, sorted-right, sorted-below}
 use Rattle.llrb.proofs.Same.{same-balance, same-paint}
 
 put-left : (x : Entry) (L : List Entry) (e : Entry) (R : List Entry) → cmp (x .key) (e .key) ≡ Less
     → putE x (L ++ (e ∷ R)) ≡ putE x L ++ (e ∷ R)
 unfolding putE
 put-left x [] e R h = rw h
-put-left x (y ∷ L) e R h = at (cmp (x .key) (y .key)) (put-left x L e R h)
-  where
-    at : (o : Ordering) → putE x (L ++ (e ∷ R)) ≡ putE x L ++ (e ∷ R)
-        → _≡_ {A = List Entry} (pick o (x ∷ y ∷ (L ++ (e ∷ R))) (withValue y (x .value) ∷ (L ++ (e ∷ R))) (y ∷ putE x (L ++ (e ∷ R))))
-        (pick o (x ∷ y ∷ L) (withValue y (x .value) ∷ L) (y ∷ putE x L) ++ (e ∷ R))
-    at Less i = refl
-    at Equal i = refl
-    at Greater i = ap {B = List Entry} (λ (P : List Entry). y ∷ P) i
+put-left x (y ∷ L) e R h =
+    let i = put-left x L e R h in
+    arms₂ (λ (u v : List Entry). u ≡ v ++ (e ∷ R)) (cmp (x .key) (y .key)) (λ q. refl) (λ q. refl) (λ q. ap {B = List Entry} (λ (P : List Entry). y ∷ P) i)
 
 put-past : (x : Entry) (L : List Entry) (e : Entry) (R : List Entry) → Below (e .key) L → NotLt (x .key) (e .key)
     → putE x (L ++ (e ∷ R)) ≡ L ++ putE x (e ∷ R)
@@ -38,17 +33,15 @@ pub go-put : (x : Entry) (t : Tree) → Sorted (entries t) → entries (insertGo
 unfolding insertGo putE
 go-put x nil s = refl
 go-put x (node c e l r) s =
-    same-balance (pick (cmp (x .key) (e .key)) (node c e (insertGo x l) r) (node c (withValue e (x .value)) l r) (node c e l (insertGo x r)))
-    ∙ at (cmp (x .key) (e .key)) refl (go-put x l (sorted-left (entries l) (e ∷ entries r) s))
-    (go-put x r (sorted-right (entries l) (e ∷ entries r) s .1))
-  where
-    at : (o : Ordering) → cmp (x .key) (e .key) ≡ o → entries (insertGo x l) ≡ putE x (entries l) → entries (insertGo x r) ≡ putE x (entries r)
-        → entries (pick o (node c e (insertGo x l) r) (node c (withValue e (x .value)) l r) (node c e l (insertGo x r))) ≡ putE x (entries l ++ (e ∷ entries r))
-    at Less q p₁ p₂ = rw p₁ (sym (put-left x (entries l) e (entries r) q))
-    at Equal q p₁ p₂ =
-        sym (put-past x (entries l) e (entries r) (sorted-below (entries l) e (entries r) s) (eq-notLt (x .key) (e .key) q) ∙ rw q)
-    at Greater q p₁ p₂ =
-        rw p₂ (sym (put-past x (entries l) e (entries r) (sorted-below (entries l) e (entries r) s) (gt-notLt (x .key) (e .key) q) ∙ rw q))
+    let L = entries l in
+    let R = entries r in
+    let il = go-put x l (sorted-left L (e ∷ R) s) in
+    let ir = go-put x r (sorted-right L (e ∷ R) s .1) in
+    let past = put-past x L e R (sorted-below L e R s) in
+    arms (λ u. entries (balance u) ≡ putE x (L ++ (e ∷ R))) (cmp (x .key) (e .key))
+    (λ q. same-balance (node c e (insertGo x l) r) ∙ rw il (sym (put-left x L e R q)))
+    (λ q. same-balance (node c (withValue e (x .value)) l r) ∙ sym (past (eq-notLt (x .key) (e .key) q) ∙ rw q))
+    (λ q. same-balance (node c e l (insertGo x r)) ∙ rw ir (sym (past (gt-notLt (x .key) (e .key) q) ∙ rw q)))
 
 pub insert-put : (x : Entry) (t : Tree) → Sorted (entries t) → entries (insert x t) ≡ putE x (entries t)
 unfolding insert
@@ -59,34 +52,26 @@ insert-put x t s = same-paint _ (insertGo x t) ∙ go-put x t s
 above-put : (j : Key) (x : Entry) (L : List Entry) → cmp j (x .key) ≡ Less → Above j L → Above j (putE x L)
 unfolding putE
 above-put j x [] h a = (h, tt)
-above-put j x (e ∷ L) h a = at (cmp (x .key) (e .key)) (above-put j x L h (a .1))
-  where
-    at : (o : Ordering) → Above j (putE x L) → Above j (pick o (x ∷ e ∷ L) (withValue e (x .value) ∷ L) (e ∷ putE x L))
-    at Less i = (h, a)
-    at Equal i = (a .0, a .1)
-    at Greater i = (a .0, i)
+above-put j x (e ∷ L) h a =
+    let i = above-put j x L h (a .1) in
+    arms (Above j) (cmp (x .key) (e .key)) (λ q. (h, a)) (λ q. (a .0, a .1)) (λ q. (a .0, i))
 
 pub sorted-put : (x : Entry) (L : List Entry) → Sorted L → Sorted (putE x L)
 unfolding putE
 sorted-put x [] s = (tt, tt)
-sorted-put x (e ∷ L) s = at (cmp (x .key) (e .key)) refl (sorted-put x L (s .1))
-  where
-    at : (o : Ordering) → cmp (x .key) (e .key) ≡ o → Sorted (putE x L) → Sorted (pick o (x ∷ e ∷ L) (withValue e (x .value) ∷ L) (e ∷ putE x L))
-    at Less q i = ((q, above-trans (x .key) (e .key) L q (s .0)), s)
-    at Equal q i = (s .0, s .1)
-    at Greater q i = (above-put (e .key) x L (gt-lt (x .key) (e .key) q) (s .0), i)
+sorted-put x (e ∷ L) s =
+    let i = sorted-put x L (s .1) in
+    arms Sorted (cmp (x .key) (e .key))
+    (λ q. ((q, above-trans (x .key) (e .key) L q (s .0)), s))
+    (λ q. (s .0, s .1))
+    (λ q. (above-put (e .key) x L (gt-lt (x .key) (e .key) q) (s .0), i))
 
 pub pairs-put : (x : Entry) (L : List Entry) → pairs (putE x L) ≡ put (x .key) (x .value) (pairs L)
 unfolding putE put
 pairs-put x [] = refl
-pairs-put x (e ∷ L) = at (cmp (x .key) (e .key)) (pairs-put x L)
-  where
-    at : (o : Ordering) → pairs (putE x L) ≡ put (x .key) (x .value) (pairs L)
-        → _≡_ {A = List Pair} (pairs (pick o (x ∷ e ∷ L) (withValue e (x .value) ∷ L) (e ∷ putE x L)))
-        (pick o (pair x ∷ pair e ∷ pairs L) (pair (withValue e (x .value)) ∷ pairs L) (pair e ∷ put (x .key) (x .value) (pairs L)))
-    at Less i = refl
-    at Equal i = refl
-    at Greater i = ap {B = List Pair} (λ (P : List Pair). pair e ∷ P) i
+pairs-put x (e ∷ L) =
+    let i = pairs-put x L in
+    arms₂ (λ (u : List Entry) (v : List Pair). pairs u ≡ v) (cmp (x .key) (e .key)) (λ q. refl) (λ q. refl) (λ q. ap {B = List Pair} (λ (P : List Pair). pair e ∷ P) i)
 
 -- a key that is there keeps its slot, and a new key brings its own
 abbrev pub SlotsPut : Entry → List Entry → Type 0

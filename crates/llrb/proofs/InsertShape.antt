@@ -1,13 +1,11 @@
 -- insert keeps the shape.
 -- Assumes nothing.
 use mathlib.Core.Bool.{Bool, true, false}
-use Prim.Native.Nat.{ℕ, zero, suc}
-use Rattle.key_order.specs.declared.Ordering.{Ordering}
-use Rattle.key_order.specs.declared.Ordering.the-variants.{Less, Equal, Greater}
-use Rattle.key_order.specs.Order.{pick, cmp}
-use Rattle.llrb.specs.Tree.{Entry, Tree, nil, node, balance, insertGo, insert, withValue, paint}
+use Prim.Native.Nat.{ℕ, suc}
+use Rattle.key_order.specs.Order.{cmp}
+use Rattle.llrb.specs.Tree.{Entry, Tree, node, balance, insertGo, insert, withValue, paint}
 use Rattle.llrb.proofs.Lists.{arms}
-use Rattle.llrb.proofs.Shape.{Llrb, leaf, red, black, Any, any, Good, good, Ins, fine, two, bal-left, bal-right, bal-any, bal-red, bal-redL, bal-redR, bal-ins}
+use Rattle.llrb.proofs.Shape.{Llrb, leaf, red, black, Any, any, Good, good, Ins, fine, bal-left, bal-any, bal-redL, bal-redR, bal-ins}
 
 of-any : {c : Bool} {n : ℕ} {t : Tree} → Any n t → Ins c n t
 of-any (any p) = fine p

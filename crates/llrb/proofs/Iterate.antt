@@ -11,7 +11,7 @@ use Rattle.llrb.specs.Tree.{Entry, Tree, nil, node, entries}
 use Rattle.llrb.specs.Delete.{least}
 use Rattle.llrb.specs.Sorted.{Above, Below, Sorted}
 use Rattle.llrb.specs.Iterate.{firstEntry, orEntry, nextEntry, nextLoop, headOf, firstAbove}
-use Rattle.llrb.proofs.Lists.{sorted-left, sorted-right, sorted-below}
+use Rattle.llrb.proofs.Lists.{arms, arms₂, sorted-left, sorted-right, sorted-below}
 
 head-append : (L : List Entry) (e : Entry) (R : List Entry) → headOf (L ++ (e ∷ R)) ≡ orEntry (headOf L) (some e)
 head-append [] e R = refl
@@ -36,13 +36,9 @@ above-left : (k : Key) (L : List Entry) (e : Entry) (R : List Entry) → cmp k (
     → firstAbove k (L ++ (e ∷ R)) ≡ orEntry (firstAbove k L) (some e)
 unfolding firstAbove
 above-left k [] e R h = rw h
-above-left k (x ∷ L) e R h = at (cmp k (x .key)) (above-left k L e R h)
-  where
-    at : (o : Ordering) → firstAbove k (L ++ (e ∷ R)) ≡ orEntry (firstAbove k L) (some e)
-        → pick o (some x) (firstAbove k (L ++ (e ∷ R))) (firstAbove k (L ++ (e ∷ R))) ≡ orEntry (pick o (some x) (firstAbove k L) (firstAbove k L)) (some e)
-    at Less i = refl
-    at Equal i = i
-    at Greater i = i
+above-left k (x ∷ L) e R h =
+    let i = above-left k L e R h in
+    arms₂ (λ u v. u ≡ orEntry v (some e)) (cmp k (x .key)) (λ q. refl) (λ q. i) (λ q. i)
 
 -- past what is not above k
 above-past : (k : Key) (L : List Entry) (e : Entry) (R : List Entry) → Below (e .key) L → NotLt k (e .key)
@@ -60,16 +56,15 @@ pub next-above : (k : Key) (t : Tree) → Sorted (entries t) → nextEntry k t �
 unfolding nextEntry firstAbove
 next-above k nil s = refl
 next-above k (node c e l r) s =
-    at (cmp k (e .key)) refl (next-above k l (sorted-left (entries l) (e ∷ entries r) s)) (next-above k r (sorted-right (entries l) (e ∷ entries r) s .1))
-  where
-    past : NotLt k (e .key) → firstAbove k (entries l ++ (e ∷ entries r)) ≡ firstAbove k (entries r)
-    past n = above-past k (entries l) e (entries r) (sorted-below (entries l) e (entries r) s) n
-
-    at : (o : Ordering) → cmp k (e .key) ≡ o → nextEntry k l ≡ firstAbove k (entries l) → nextEntry k r ≡ firstAbove k (entries r)
-        → pick o (orEntry (nextEntry k l) (some e)) (nextEntry k r) (nextEntry k r) ≡ firstAbove k (entries l ++ (e ∷ entries r))
-    at Less q p₁ p₂ = ap (λ (o : Option Entry). orEntry o (some e)) p₁ ∙ sym (above-left k (entries l) e (entries r) q)
-    at Equal q p₁ p₂ = p₂ ∙ sym (past (eq-notLt k (e .key) q))
-    at Greater q p₁ p₂ = p₂ ∙ sym (past (gt-notLt k (e .key) q))
+    let L = entries l in
+    let R = entries r in
+    let il = next-above k l (sorted-left L (e ∷ R) s) in
+    let ir = next-above k r (sorted-right L (e ∷ R) s .1) in
+    let past = above-past k L e R (sorted-below L e R s) in
+    arms (λ u. u ≡ firstAbove k (L ++ (e ∷ R))) (cmp k (e .key))
+    (λ q. ap (λ (o : Option Entry). orEntry o (some e)) il ∙ sym (above-left k L e R q))
+    (λ q. ir ∙ sym (past (eq-notLt k (e .key) q)))
+    (λ q. ir ∙ sym (past (gt-notLt k (e .key) q)))
 
 -- above a key of the list stands the entry that follows it
 pub above-follows : (L : List Entry) (e : Entry) (R : List Entry) → Sorted (L ++ (e ∷ R)) → firstAbove (e .key) (L ++ (e ∷ R)) ≡ headOf R
@@ -93,10 +88,7 @@ or-some (some x) b y = refl
 pub next-loop : (k : Key) (b : Option Entry) (t : Tree) → nextLoop k b t ≡ orEntry (nextEntry k t) b
 unfolding nextLoop nextEntry
 next-loop k b nil = refl
-next-loop k b (node c e l r) = at (cmp k (e .key)) (next-loop k (some e) l ∙ or-some (nextEntry k l) b e) (next-loop k b r)
-  where
-    at : (o : Ordering) → nextLoop k (some e) l ≡ orEntry (orEntry (nextEntry k l) (some e)) b → nextLoop k b r ≡ orEntry (nextEntry k r) b
-        → pick o (nextLoop k (some e) l) (nextLoop k b r) (nextLoop k b r) ≡ orEntry (pick o (orEntry (nextEntry k l) (some e)) (nextEntry k r) (nextEntry k r)) b
-    at Less p q = p
-    at Equal p q = q
-    at Greater p q = q
+next-loop k b (node c e l r) =
+    let il = next-loop k (some e) l ∙ or-some (nextEntry k l) b e in
+    let ir = next-loop k b r in
+    arms₂ (λ u v. u ≡ orEntry v b) (cmp k (e .key)) (λ q. il) (λ q. ir) (λ q. ir)

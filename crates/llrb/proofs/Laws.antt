@@ -1,11 +1,11 @@
 -- A lawful tree in plain words is a tree of the family `Llrb` with sorted entries, and back.
 -- Assumes nothing.
-use mathlib.Core.Path.{_≡_, refl, sym, ap, _∙_, subst}
+use mathlib.Core.Path.{_≡_, refl, sym, subst}
 use mathlib.Core.Bool.{Bool, true, false, true≢false}
-use Prim.Native.Nat.{ℕ, zero, suc}
+use Prim.Native.Nat.{ℕ}
 use Rattle.llrb.specs.Tree.{Tree, nil, node, isRed, entries}
 use Rattle.llrb.specs.Sorted.{Sorted}
-use Rattle.llrb.specs.Shape.{RootBlack, RedsApart, LeansLeft, Blacks, SameBlacks, Lawful}
+use Rattle.llrb.specs.Shape.{RedsApart, LeansLeft, Blacks, Lawful}
 use Rattle.llrb.proofs.Shape.{Llrb, leaf, red, black, Good, good}
 
 pub colour : {c : Bool} {n : ℕ} {t : Tree} → Llrb c n t → isRed t ≡ c

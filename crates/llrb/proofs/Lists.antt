@@ -1,16 +1,15 @@
 -- Lists of entries.
 -- Assumes nothing.
-use mathlib.Core.Path.{_≡_, refl, sym, ap, _∙_, subst}
-use mathlib.Core.Logic.{_⊎_, inl, inr}
+use mathlib.Core.Path.{_≡_, refl}
+use mathlib.Core.Logic.{inl, inr}
 use mathlib.Core.List.{List, [], _∷_, _++_}
-use Prim.Native.Nat.{ℕ, zero, suc, _≤_}
+use Prim.Native.Nat.{ℕ, suc, _≤_}
 use native.Mathlib.Omega.{arith}
 use lib.ListN.{length, length-append}
 use Rattle.key_order.specs.declared.Ordering.{Ordering}
 use Rattle.key_order.specs.declared.Ordering.the-variants.{Less, Equal, Greater}
 use Rattle.key_order.specs.Order.{Key, cmp, pick}
 use Rattle.llrb.specs.Tree.{Entry}
-use Rattle.llrb.specs.Delete.{moved}
 use Rattle.llrb.specs.Sorted.{Above, Below, Sorted, Mem, Cut, gone, over, skip}
 use Rattle.key_order.proofs.Laws.{cmp-eq, cmp-trans, lt≢eq, lt≢gt, gt≢eq}
 
@@ -19,6 +18,13 @@ pub arms : {X : Type 0} (P : X → Type 0) (o : Ordering) {a b c : X} → (o ≡
 arms P Less p q r = p refl
 arms P Equal p q r = q refl
 arms P Greater p q r = r refl
+
+-- two branches on the same answer
+pub arms₂ : {X Y : Type 0} (P : X → Y → Type 0) (o : Ordering) {a b c : X} {x y z : Y}
+    → (o ≡ Less → P a x) → (o ≡ Equal → P b y) → (o ≡ Greater → P c z) → P (pick o a b c) (pick o x y z)
+arms₂ P Less p q r = p refl
+arms₂ P Equal p q r = q refl
+arms₂ P Greater p q r = r refl
 
 pub above-trans : (j k : Key) (L : List Entry) → cmp j k ≡ Less → Above k L → Above j L
 above-trans j k [] h a = tt

@@ -3,16 +3,16 @@
 use mathlib.Core.Path.{_≡_, refl, sym, ap, _∙_}
 use mathlib.Core.Option.{Option, none, some, Option·map}
 use mathlib.Core.List.{List, [], _∷_}
-use Prim.Native.Nat.{ℕ}
 use Rattle.key_order.specs.declared.Ordering.{Ordering}
 use Rattle.key_order.specs.declared.Ordering.the-variants.{Less, Equal, Greater}
 use Rattle.key_order.specs.Order.{Key, cmp, pick}
 use Rattle.llrb.specs.Tree.{Value, Entry, Tree, entries, get, insert}
 use Rattle.llrb.specs.Delete.{delete}
 use Rattle.llrb.specs.Shape.{Lawful}
-use Rattle.llrb.specs.Sorted.{Above, Sorted}
-use Rattle.llrb.specs.Map.{Pair, pair, pairs, find, findE, put, drop}
+use Rattle.llrb.specs.Sorted.{Sorted}
+use Rattle.llrb.specs.Map.{Pair, pairs, find, put, drop}
 use Rattle.key_order.proofs.Laws.{cmp-refl, cmp-eq}
+use Rattle.llrb.proofs.Lists.{arms}
 use Rattle.llrb.proofs.Get.{get-find, find-pairs, above-none}
 use Rattle.llrb.proofs.History.{insert-lawful, insert-pairs, delete-lawful, delete-pairs}
 
@@ -24,49 +24,43 @@ pick-same Greater x y h = refl
 pub find-put-same : (k : Key) (v : Value) (L : List Pair) → find k (put k v L) ≡ some v
 unfolding find put
 find-put-same k v [] = rw (cmp-refl k)
-find-put-same k v (p ∷ L) = at (cmp k (p .key)) refl (find-put-same k v L)
-  where
-    at : (o : Ordering) → cmp k (p .key) ≡ o → find k (put k v L) ≡ some v
-        → find k (pick o (record { key = k; value = v } ∷ p ∷ L) (record { key = p .key; value = v } ∷ L) (p ∷ put k v L)) ≡ some v
-    at Less q i = rw (cmp-refl k)
-    at Equal q i = rw q
-    at Greater q i = rw q i
+find-put-same k v (p ∷ L) =
+    let i = find-put-same k v L in
+    arms (λ u. find k u ≡ some v) (cmp k (p .key)) (λ q. rw (cmp-refl k)) (λ q. rw q) (λ q. rw q i)
 
 pub find-put-other : (j k : Key) (v : Value) (L : List Pair) → (cmp j k ≡ Equal → ⊥) → find j (put k v L) ≡ find j L
 unfolding find put
 find-put-other j k v [] h = pick-same (cmp j k) none (some v) h
-find-put-other j k v (p ∷ L) h = at (cmp k (p .key)) refl (find-put-other j k v L h)
-  where
-    at : (o : Ordering) → cmp k (p .key) ≡ o → find j (put k v L) ≡ find j L
-        → find j (pick o (record { key = k; value = v } ∷ p ∷ L) (record { key = p .key; value = v } ∷ L) (p ∷ put k v L)) ≡ find j (p ∷ L)
-    at Less q i = pick-same (cmp j k) (find j (p ∷ L)) (some v) h
-    at Equal q i =
-        let n : cmp j (p .key) ≡ Equal → ⊥ = rw (cmp-eq k (p .key) q) at h in
-        pick-same (cmp j (p .key)) (find j L) (some v) n ∙ sym (pick-same (cmp j (p .key)) (find j L) (some (p .value)) n)
-    at Greater q i = rw i
+find-put-other j k v (p ∷ L) h =
+    let i = find-put-other j k v L h in
+    arms (λ u. find j u ≡ find j (p ∷ L)) (cmp k (p .key))
+    (λ q. pick-same (cmp j k) (find j (p ∷ L)) (some v) h)
+    (λ q.
+    let n : cmp j (p .key) ≡ Equal → ⊥ = rw (cmp-eq k (p .key) q) at h in
+    pick-same (cmp j (p .key)) (find j L) (some v) n ∙ sym (pick-same (cmp j (p .key)) (find j L) (some (p .value)) n))
+    (λ q. rw i)
 
 pub find-drop-other : (j k : Key) (L : List Pair) → (cmp j k ≡ Equal → ⊥) → find j (drop k L) ≡ find j L
 unfolding find drop
 find-drop-other j k [] h = refl
-find-drop-other j k (p ∷ L) h = at (cmp k (p .key)) refl (find-drop-other j k L h)
-  where
-    at : (o : Ordering) → cmp k (p .key) ≡ o → find j (drop k L) ≡ find j L → find j (pick o (p ∷ drop k L) L (p ∷ drop k L)) ≡ find j (p ∷ L)
-    at Less q i = rw i
-    at Equal q i =
-        let n : cmp j (p .key) ≡ Equal → ⊥ = rw (cmp-eq k (p .key) q) at h in
-        sym (pick-same (cmp j (p .key)) (find j L) (some (p .value)) n)
-    at Greater q i = rw i
+find-drop-other j k (p ∷ L) h =
+    let i = find-drop-other j k L h in
+    arms (λ u. find j u ≡ find j (p ∷ L)) (cmp k (p .key))
+    (λ q. rw i)
+    (λ q.
+    let n : cmp j (p .key) ≡ Equal → ⊥ = rw (cmp-eq k (p .key) q) at h in
+    sym (pick-same (cmp j (p .key)) (find j L) (some (p .value)) n))
+    (λ q. rw i)
 
 pub find-drop-same : (k : Key) (L : List Entry) → Sorted L → find k (drop k (pairs L)) ≡ none
 unfolding find drop
 find-drop-same k [] s = refl
-find-drop-same k (e ∷ L) s = at (cmp k (e .key)) refl (find-drop-same k L (s .1))
-  where
-    at : (o : Ordering) → cmp k (e .key) ≡ o → find k (drop k (pairs L)) ≡ none
-        → find k (pick o (pair e ∷ drop k (pairs L)) (pairs L) (pair e ∷ drop k (pairs L))) ≡ none
-    at Less q i = rw q i
-    at Equal q i = sym (find-pairs k L) ∙ rw (above-none k L (rw (cmp-eq k (e .key) q) (s .0)))
-    at Greater q i = rw q i
+find-drop-same k (e ∷ L) s =
+    let i = find-drop-same k L (s .1) in
+    arms (λ u. find k u ≡ none) (cmp k (e .key))
+    (λ q. rw q i)
+    (λ q. sym (find-pairs k L) ∙ rw (above-none k L (rw (cmp-eq k (e .key) q) (s .0))))
+    (λ q. rw q i)
 
 -- ---- of the tree
 

@@ -1,26 +1,25 @@
 -- A new value for a present key: insert and modify give the same tree, of the same shape, with only that value another;
 -- and every subtree off the search path is the same subtree, so it has the same digest.
 -- Assumes nothing.
-use mathlib.Core.Path.{_≡_, refl, sym, ap, _∙_}
+use mathlib.Core.Path.{_≡_, refl, ap, _∙_}
 use mathlib.Core.Bool.{Bool, true, false, cond}
-use mathlib.Core.List.{List, [], _∷_, _++_}
-use mathlib.Core.Option.{Option, none, some, Option·map}
-use Prim.Native.Nat.{ℕ, zero, suc}
+use mathlib.Core.List.{[], _∷_}
+use mathlib.Core.Option.{some, Option·map}
+use Prim.Native.Nat.{ℕ}
 use lib.Dec.{eqb}
 use borrow.Author.Tests.{eqb-true}
 use Rattle.key_order.specs.declared.Ordering.{Ordering}
 use Rattle.key_order.specs.declared.Ordering.the-variants.{Less, Equal, Greater}
 use Rattle.key_order.specs.Order.{Key, cmp, pick}
-use Rattle.hash_tree.specs.HashTree.{Digest}
 use Rattle.llrb.specs.Tree.{Value, Entry, Tree, nil, node, isRed, entries, paint, balance, withValue, insertGo, insert, modify}
 use Rattle.llrb.specs.Sorted.{Sorted, Mem}
 use Rattle.llrb.specs.Shape.{Lawful}
 use Rattle.llrb.specs.Map.{Out}
 use Rattle.llrb.specs.Digests.{subtreeDigest}
-use Rattle.llrb.specs.Path.{orElse, subtreeAt, searchPath, outline}
+use Rattle.llrb.specs.Path.{orElse, subtreeAt, searchPath, outline, subtreeDigestAt}
 use Rattle.llrb.proofs.Shape.{Llrb, leaf, red, black, Good, good}
 use Rattle.llrb.proofs.Laws.{colour, lawful-good}
-use Rattle.llrb.proofs.Lists.{mem-left, mem-right, sorted-left, sorted-right}
+use Rattle.llrb.proofs.Lists.{arms, mem-left, mem-right, sorted-left, sorted-right}
 use Rattle.llrb.proofs.Modify.{modify-shape}
 
 -- ---- insert of a present key is modify
@@ -73,13 +72,10 @@ insert-present x w m = good-modify x (lawful-good w) (w .sorted) m
 pub modify-outline : (k : Key) (v : Value) (t : Tree) → outline (modify k v t) ≡ outline t
 unfolding modify outline
 modify-outline k v nil = refl
-modify-outline k v (node c e l r) = at (cmp k (e .key)) (modify-outline k v l) (modify-outline k v r)
-  where
-    at : (o : Ordering) → outline (modify k v l) ≡ outline l → outline (modify k v r) ≡ outline r
-        → outline (pick o (node c e (modify k v l) r) (node c (withValue e v) l r) (node c e l (modify k v r))) ≡ outline (node c e l r)
-    at Less p q = rw p
-    at Equal p q = refl
-    at Greater p q = rw q
+modify-outline k v (node c e l r) =
+    let il = modify-outline k v l in
+    let ir = modify-outline k v r in
+    arms (λ u. outline u ≡ outline (node c e l r)) (cmp k (e .key)) (λ q. rw il) (λ q. refl) (λ q. rw ir)
 
 pub insert-outline : (x : Entry) {t : Tree} → Lawful t → Mem (x .key) (entries t) → outline (insert x t) ≡ outline t
 insert-outline x {t} w m = ap outline (insert-present x w m) ∙ modify-outline (x .key) (x .value) t
@@ -107,12 +103,9 @@ pub insert-off-path : (x : Entry) (s : ℕ) {t : Tree} → Lawful t → Mem (x .
 insert-off-path x s {t} w m o = ap (subtreeAt s) (insert-present x w m) ∙ modify-off-path (x .key) (x .value) s t o
 
 -- so the digest of the subtree at such a slot stays
-abbrev pub digestAt : ℕ → Tree → Option Digest
-digestAt s t = Option·map subtreeDigest (subtreeAt s t)
-
-pub modify-digest-off-path : (k : Key) (v : Value) (s : ℕ) (t : Tree) → Out s (searchPath k t) → digestAt s (modify k v t) ≡ digestAt s t
+pub modify-digest-off-path : (k : Key) (v : Value) (s : ℕ) (t : Tree) → Out s (searchPath k t) → subtreeDigestAt s (modify k v t) ≡ subtreeDigestAt s t
 modify-digest-off-path k v s t o = ap (Option·map subtreeDigest) (modify-off-path k v s t o)
 
 pub insert-digest-off-path : (x : Entry) (s : ℕ) {t : Tree} → Lawful t → Mem (x .key) (entries t) → Out s (searchPath (x .key) t)
-    → digestAt s (insert x t) ≡ digestAt s t
+    → subtreeDigestAt s (insert x t) ≡ subtreeDigestAt s t
 insert-digest-off-path x s w m o = ap (Option·map subtreeDigest) (insert-off-path x s w m o)

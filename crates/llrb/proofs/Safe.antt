@@ -2,8 +2,8 @@
 -- insert on every tree, delete on every lawful one.
 -- Assumes nothing.
 use mathlib.Core.Path.{_≡_, refl, sym, ap, _∙_, subst}
-use mathlib.Core.Bool.{Bool, true, false, not, cond, _&&_}
-use mathlib.Core.Logic.{_⊎_, inl, inr}
+use mathlib.Core.Bool.{Bool, true, false, not, cond}
+use mathlib.Core.Logic.{inl}
 use mathlib.Core.Option.{Option, none, some}
 use mathlib.Core.List.{List, [], _∷_, _++_, append-assoc}
 use Prim.Native.Nat.{ℕ, zero, suc, _≤_}
@@ -13,15 +13,15 @@ use lib.ListN.{length, length-append}
 use Rattle.key_order.specs.declared.Ordering.{Ordering}
 use Rattle.key_order.specs.declared.Ordering.the-variants.{Less, Equal, Greater}
 use Rattle.key_order.specs.Order.{Key, pick, cmp}
-use Rattle.llrb.specs.Tree.{Entry, Tree, nil, node, isRed, left, right, entries, size, get, paint, balance₁, balance₂, balance₃, balance, rotateLeft, rotateRight, flipColors, withValue, insertGo, insert}
+use Rattle.llrb.specs.Tree.{Entry, Tree, nil, node, isRed, entries, size, get, balance₁, balance₂, balance₃, balance, flipColors, withValue, insertGo, insert}
 use Rattle.llrb.specs.Delete.{readyLeft, readyRight, leanRight, ready, goRight, takeRight, deleteMin, deleteGo, deleteFound, delete, least, moved, onLeft}
-use Rattle.llrb.specs.Panic.{andThen, balance₁P, balance₂P, balance₃P, balanceP, rotateLeftP, rotateRightP, flipColorsP, readyLeftP, readyRightP, leanRightP, onLeftP, takeRightP, goRightP, deleteMinP, deleteGoP, deleteFoundP, deleteP, putLeft, putRight, insertGoP, insertP}
+use Rattle.llrb.specs.Panic.{andThen, balance₁P, balance₂P, balance₃P, balanceP, readyLeftP, readyRightP, leanRightP, onLeftP, takeRightP, goRightP, deleteMinP, deleteGoP, deleteFoundP, deleteP, insertGoP, insertP}
 use Rattle.llrb.specs.Shape.{Lawful}
 use Rattle.llrb.specs.Sorted.{Sorted, Mem}
 use Rattle.llrb.specs.History.{Op, run}
 use Rattle.key_order.proofs.Laws.{cmp-trans, NotLt, notLt-gt, gt-notLt, lt≢eq, lt≢gt, gt≢eq}
-use Rattle.llrb.proofs.Lists.{Ok, ok-left, ok-right, row}
-use Rattle.llrb.proofs.Shape.{Llrb, leaf, red, black, Good, good, Any, any}
+use Rattle.llrb.proofs.Lists.{arms₂, Ok, ok-left, ok-right, row}
+use Rattle.llrb.proofs.Shape.{Llrb, leaf, red, black, Good, good}
 use Rattle.llrb.proofs.Get.{get-find, find-some}
 use Rattle.llrb.proofs.DeleteMin.{LeftRed, leftRed, fits-left, not-empty}
 use Rattle.llrb.proofs.DeleteGo.{RightRed, rightRed}
@@ -167,17 +167,11 @@ module _ (f : ℕ) (k : Key) (ih : DelSafe f k) where
       → (cmp k (x .key) ≡ Equal → length (entries r) ≤ f → deleteMinP f r ≡ some (deleteMin f r))
       → andThen (takeRightP k (λ u. deleteGoP f k u) (λ u. deleteMinP f u) (node c x l r)) balanceP
       ≡ some (balance (takeRight k (λ u. deleteGo f k u) (λ u. deleteMin f u) (node c x l r)))
-  right-any t c x l {r} isNode p q o g m = at (cmp k (x .key)) refl
-    where
-      at : (u : Ordering) → cmp k (x .key) ≡ u
-          → andThen (pick u (andThen (deleteGoP f k r) (λ t. some (node c x l t))) (andThen (deleteMinP f r) (λ t. some (node c (moved x (least x r)) l t)))
-          (andThen (deleteGoP f k r) (λ t. some (node c x l t)))) balanceP
-          ≡ some (balance (pick u (node c x l (deleteGo f k r)) (node c (moved x (least x r)) l (deleteMin f r)) (node c x l (deleteGo f k r))))
-      at Less e = absurd (q e)
-      at Equal e =
-          rw (m e (fits-right (entries t) (entries l) x (entries r) p (o .fits))) (safe-balance (node c (moved x (least x r)) l (deleteMin f r)))
-      at Greater e =
-          rw (g (ok-right (entries l) x (entries r) (subst (Ok (suc f) k) p o) e)) (safe-balance (node c x l (deleteGo f k r)))
+  right-any t c x l {r} isNode p q o g m =
+      arms₂ (λ (u : Option Tree) (v : Tree). andThen u balanceP ≡ some (balance v)) (cmp k (x .key))
+      (λ e. absurd (q e))
+      (λ e. rw (m e (fits-right (entries t) (entries l) x (entries r) p (o .fits))) (safe-balance (node c (moved x (least x r)) l (deleteMin f r))))
+      (λ e. rw (g (ok-right (entries l) x (entries r) (subst (Ok (suc f) k) p o) e)) (safe-balance (node c x l (deleteGo f k r))))
 
   take-R : (t : Tree) (c : Bool) (x : Entry) (l : Tree) {n : ℕ} {r : Tree} → Llrb true n r → entries t ≡ entries (node c x l r) → NotLt k (x .key) → Ok (suc f) k (entries t)
       → andThen (takeRightP k (λ u. deleteGoP f k u) (λ u. deleteMinP f u) (node c x l r)) balanceP
@@ -293,15 +287,12 @@ pub insert-go-safe : (x : Entry) (t : Tree) → insertGoP x t ≡ some (insertGo
 unfolding insertGoP insertGo
 insert-go-safe x nil = refl
 insert-go-safe x (node c e l r) =
-    ap (λ (o : Option Tree). andThen o balanceP) (at (cmp (x .key) (e .key)) (insert-go-safe x l) (insert-go-safe x r))
-    ∙ safe-balance (pick (cmp (x .key) (e .key)) (node c e (insertGo x l) r) (node c (withValue e (x .value)) l r) (node c e l (insertGo x r)))
-  where
-    at : (o : Ordering) → insertGoP x l ≡ some (insertGo x l) → insertGoP x r ≡ some (insertGo x r)
-        → pick o (putLeft c e r (insertGoP x l)) (some (node c (withValue e (x .value)) l r)) (putRight c e l (insertGoP x r))
-        ≡ some (pick o (node c e (insertGo x l) r) (node c (withValue e (x .value)) l r) (node c e l (insertGo x r)))
-    at Less p q = rw p
-    at Equal p q = refl
-    at Greater p q = rw q
+    let il = insert-go-safe x l in
+    let ir = insert-go-safe x r in
+    arms₂ (λ (u : Option Tree) (v : Tree). andThen u balanceP ≡ some (balance v)) (cmp (x .key) (e .key))
+    (λ q. rw il (safe-balance (node c e (insertGo x l) r)))
+    (λ q. safe-balance (node c (withValue e (x .value)) l r))
+    (λ q. rw ir (safe-balance (node c e l (insertGo x r))))
 
 pub insert-safe : (x : Entry) (t : Tree) → insertP x t ≡ some (insert x t)
 unfolding insertP insert

@@ -1,10 +1,10 @@
 -- No rotation and no colour changes the entries in order.
 -- Assumes nothing.
-use mathlib.Core.Path.{_≡_, refl, sym, ap, _∙_}
-use mathlib.Core.Bool.{Bool, true, false, not, cond, _&&_}
-use mathlib.Core.List.{List, [], _∷_, _++_, append-assoc}
-use Rattle.llrb.specs.Tree.{Entry, Tree, nil, node, entries, isRed, left, right, paint, flipAssign, flipColors, rotateLeft, rotateRight, balance₁, balance₂, balance₃, balance}
-use Rattle.llrb.specs.Delete.{moveRedLeft, moveRedLeft₂, moveRedRight, moveRedRight₂, readyLeft, readyRight, leanRight, ready}
+use mathlib.Core.Path.{_≡_, refl, sym}
+use mathlib.Core.Bool.{Bool, true, false, cond}
+use mathlib.Core.List.{List, _∷_, append-assoc}
+use Rattle.llrb.specs.Tree.{Entry, Tree, nil, node, entries, paint, flipAssign, flipColors, rotateLeft, rotateRight, balance}
+use Rattle.llrb.specs.Delete.{moveRedLeft₂, readyLeft, readyRight, ready}
 
 -- Each law below is one rewriting to the end, with none of the tests written again.
 

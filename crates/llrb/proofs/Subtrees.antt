@@ -1,9 +1,9 @@
 -- Where no slot is twice, the subtree at a slot is the one that stands there.
 -- Assumes nothing.
-use mathlib.Core.Path.{_≡_, refl, sym, ap, _∙_, subst}
+use mathlib.Core.Path.{_≡_, refl, sym, _∙_, subst}
 use mathlib.Core.Bool.{Bool, true, false, cond}
-use mathlib.Core.List.{List, [], _∷_, _++_, map, map-append}
-use mathlib.Core.Option.{Option, none, some}
+use mathlib.Core.List.{List, [], _∷_, _++_, map-append}
+use mathlib.Core.Option.{none, some}
 use Prim.Native.Nat.{ℕ}
 use lib.Dec.{eqb}
 use borrow.Author.Tests.{eqb-true, eq-eqb}
@@ -75,7 +75,7 @@ sub-at {e = e} whole d = rw (eq-eqb (e .slot) (e .slot) refl)
 sub-at {c = c} {e = e} (on-left {c = d′} {e = x} {l = a} {r = b} i) d =
     let p = subst Distinct (slots-node a x b) d in
     let n : e .slot ≡ x .slot → ⊥
-        = λ q. sub-in i (distinct-apart (e .slot) (slots (entries a)) (x .slot ∷ slots (entries b)) p (λ o. o .0 q)) in
+    = λ q. sub-in i (distinct-apart (e .slot) (slots (entries a)) (x .slot ∷ slots (entries b)) p (λ o. o .0 q)) in
     miss (e .slot) d′ x a b n ∙ rw (sub-at i (distinct-left (slots (entries a)) (x .slot ∷ slots (entries b)) p))
 sub-at {c = c} {e = e} (on-right {c = d′} {e = x} {l = a} {r = b} i) d =
     let p = subst Distinct (slots-node a x b) d in

@@ -1,7 +1,7 @@
 -- `delete` of the Rust's `rb_tree`, on paper, and the slot that it frees.
 -- The recursion is over a number that falls, at the top the number of entries; proofs/Safe says that it is enough.
 -- Assumes nothing: these are definitions.
-use mathlib.Core.Bool.{Bool, true, false, not, cond, _&&_}
+use mathlib.Core.Bool.{true, false, not, cond, _&&_}
 use mathlib.Core.Option.{Option, none, some}
 use Prim.Native.Nat.{ℕ, zero, suc}
 use Rattle.key_order.specs.Order.{Key, cmp, pick}

@@ -4,10 +4,8 @@
 use mathlib.Core.Bool.{Bool, true, false, not, cond, _&&_}
 use mathlib.Core.Option.{Option, none, some}
 use Prim.Native.Nat.{ℕ, zero, suc}
-use Rattle.key_order.specs.declared.Ordering.{Ordering}
-use Rattle.key_order.specs.declared.Ordering.the-variants.{Less, Equal, Greater}
 use Rattle.key_order.specs.Order.{Key, cmp, pick}
-use Rattle.llrb.specs.Tree.{Entry, Tree, nil, node, isRed, left, right, entries, size, get, paint, flipColors, withValue}
+use Rattle.llrb.specs.Tree.{Entry, Tree, nil, node, isRed, left, right, size, get, paint, withValue}
 use Rattle.llrb.specs.Delete.{least, moved, ready}
 
 abbrev pub andThen : Option Tree → (Tree → Option Tree) → Option Tree

@@ -1,7 +1,7 @@
 -- What a lawful tree is (document 01, "A store is sound when"), each law in plain words.
 -- Assumes nothing: these are definitions.
 use mathlib.Core.Path.{_≡_}
-use mathlib.Core.Bool.{Bool, true, false}
+use mathlib.Core.Bool.{true, false}
 use Prim.Native.Nat.{ℕ, zero, suc, max}
 use Rattle.llrb.specs.Tree.{Tree, nil, node, isRed, entries}
 use Rattle.llrb.specs.Sorted.{Sorted}

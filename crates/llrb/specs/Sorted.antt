@@ -5,7 +5,7 @@ use mathlib.Core.Logic.{_⊎_}
 use mathlib.Core.List.{List, [], _∷_}
 use Prim.Native.Nat.{ℕ}
 use Rattle.key_order.specs.Order.{Key, cmp}
-use Rattle.key_order.specs.declared.Ordering.the-variants.{Less, Equal, Greater}
+use Rattle.key_order.specs.declared.Ordering.the-variants.{Less, Equal}
 use Rattle.llrb.specs.Tree.{Entry}
 use Rattle.llrb.specs.Delete.{moved}
 

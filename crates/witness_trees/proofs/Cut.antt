@@ -1,16 +1,13 @@
 -- Every witness is the whole hash tree with parts cut to their digests: what it shows stands there at the same place.
 -- Assumes nothing.
-use mathlib.Core.Path.{_≡_, refl, sym, ap, _∙_, subst}
-use mathlib.Core.Bool.{Bool, true, false, not, cond, _&&_}
-use mathlib.Core.List.{List, [], _∷_, _++_}
-use Prim.Native.Nat.{ℕ}
-use Rattle.key_order.specs.Order.{Key}
-use Rattle.hash_tree.specs.HashTree.{Digest, HashTree, Empty, Fork, Labeled, Leaf, Pruned, forkHash, digest}
+use mathlib.Core.Path.{_≡_, refl, subst}
+use mathlib.Core.Bool.{Bool, true, false, _&&_}
+use Rattle.hash_tree.specs.HashTree.{Digest, HashTree, Empty, Fork, Leaf, Pruned, forkHash, digest}
 use Rattle.hash_tree.specs.Prune.{Prunes, cut, same, fork, labeled}
 use Rattle.llrb.specs.Tree.{Entry, Tree, nil, node, entries}
 use Rattle.llrb.specs.Digests.{dataDigest, subtreeDigest, isNil}
-use Rattle.witness_trees.specs.Shown.{threeWayFork, What, Hide, Label, Show, isHide, item, quiet, shown, spread}
-use Rattle.witness_trees.proofs.Shown.{node-cases, shown-nil, shown-spread, digest-shown, digest-item}
+use Rattle.witness_trees.specs.Shown.{What, Hide, Label, Show, isHide, item, quiet, shown, spread}
+use Rattle.witness_trees.proofs.Shown.{node-cases, shown-nil, shown-spread, digest-shown}
 use Rattle.witness_trees.proofs.Lists.{loud-here}
 
 prunes-item : (w : What) (e : Entry) → Prunes (item w e) (item Show e)
@@ -37,6 +34,6 @@ shown-prunes f (node c e l r) =
     node-cases (λ u. (u ≡ shown f (node c e l r)) → Prunes u (shown all (node c e l r))) f c e l r
     (λ h k. subst (λ (x : Digest). Prunes (Pruned x) (shown all (node c e l r))) (digest-shown all (node c e l r)) (cut (shown all (node c e l r))))
     (λ h k. rw (k, shown-spread f c e l r h, shown-spread all c e l r (loud-here all (entries l) e (entries r) refl))
-      (prunes-spread (isNil l) (isNil r) (isHide (f e) && quiet f (entries r)) (forkHash (dataDigest e) (subtreeDigest r)) (forkHash (dataDigest e) (subtreeDigest r))
-        (rw (digest-shown all r)) p (prunes-item (f e) e) q))
+    (prunes-spread (isNil l) (isNil r) (isHide (f e) && quiet f (entries r)) (forkHash (dataDigest e) (subtreeDigest r)) (forkHash (dataDigest e) (subtreeDigest r))
+    (rw (digest-shown all r)) p (prunes-item (f e) e) q))
     refl

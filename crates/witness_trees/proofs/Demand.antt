@@ -1,25 +1,26 @@
 -- The laws of the witnesses on every lawful tree and after any history from the empty map: demand 3's last sentence,
 -- the other calls, and the depth.
 -- Assumes nothing.
-use mathlib.Core.Path.{_≡_, refl, sym, ap, _∙_, subst}
-use mathlib.Core.Bool.{Bool, true, false}
+use mathlib.Core.Path.{_≡_, refl, sym, _∙_, subst}
+use mathlib.Core.Bool.{Bool}
 use mathlib.Core.List.{List, [], _∷_}
-use mathlib.Core.Option.{Option, none, some}
-use Prim.Native.Nat.{ℕ, _+_, _*_, _≤_}
+use Prim.Native.Nat.{_≤_}
 use native.Mathlib.Omega.{arith}
 use Rattle.key_order.specs.Order.{Key}
-use Rattle.hash_tree.specs.HashTree.{HashTree, digest}
-use Rattle.llrb.specs.Tree.{Value, Entry, Tree, entries, size, get}
-use Rattle.llrb.specs.Shape.{height, Lawful}
-use Rattle.llrb.specs.Map.{Pair, pair, pairs}
+use Rattle.hash_tree.specs.HashTree.{HashTree}
+use Rattle.llrb.specs.Tree.{Tree, size}
+use Rattle.llrb.specs.Shape.{Lawful}
+use Rattle.llrb.specs.Map.{Pair}
 use Rattle.llrb.specs.History.{Op, run, runMap}
 use Rattle.llrb.proofs.History.{run-lawful, run-pairs}
 use Rattle.llrb.proofs.Height.{height-20}
-use Rattle.witness_trees.specs.Reading.{labels, leaves, depth}
+use Rattle.witness_trees.specs.Reading.{labels, depth}
 use Rattle.witness_trees.specs.Witness.{asHashTree, keys, keyRange, valueRange, keysWithPrefix, witness}
-use Rattle.witness_trees.specs.Rules.{Le, keysIn, filter, valuesIn, wanted, wantedPrefix, within, Witness, every, nothing}
+use Rattle.witness_trees.specs.Rules.{Le, keysIn, valuesIn, wanted, wantedPrefix, within, Witness, every, nothing}
+use Rattle.witness_trees.specs.Words.{Has, Wanted}
 use Rattle.witness_trees.specs.Demand.{KeyRangeLaw}
-use Rattle.witness_trees.proofs.Laws.{as-hash-tree-witness, keys-witness, key-range-witness, key-range-leaves, value-range-witness, prefix-witness, one-witness}
+use Rattle.witness_trees.proofs.Laws.{as-hash-tree-witness, keys-witness, key-range-witness, value-range-witness, prefix-witness, one-witness}
+use Rattle.witness_trees.proofs.Words.{wanted-says, says-wanted, filter-has, has-filter}
 
 -- ---- after any history
 
@@ -61,6 +62,20 @@ pub key-range-law : (h : List Op) (first last : Key) → Le first last → KeyRa
 key-range-law h first last o =
     let w = history-key-range h first last o in
     record { rebuilds = w .rebuilds; labelled = w .labelled; valued = w .valued ∙ none-in (runMap h) }
+
+-- the same key by key: a key is labelled exactly if it is in the map and is wanted
+pub key-range-labels : (h : List Op) (first last : Key) → Le first last → (k : Key)
+    → Has k (labels (keyRange first last (run h))) → Has k (keysIn (runMap h)) × Wanted first last (keysIn (runMap h)) k
+key-range-labels h first last o k i =
+    let ks = keysIn (runMap h) in
+    let r = has-filter (wanted first last ks) k ks (subst (Has k) (key-range-law h first last o .labelled) i) in
+    (r .0, wanted-says first last ks k (r .1))
+
+pub labels-key-range : (h : List Op) (first last : Key) → Le first last → (k : Key)
+    → Has k (keysIn (runMap h)) → Wanted first last (keysIn (runMap h)) k → Has k (labels (keyRange first last (run h)))
+labels-key-range h first last o k i w =
+    let ks = keysIn (runMap h) in
+    subst (Has k) (sym (key-range-law h first last o .labelled)) (filter-has (wanted first last ks) k ks i (says-wanted first last ks k w))
 
 -- ---- depth: with 1,024 entries at most, no witness is more than 64 records deep; it is 42 at most
 

@@ -1,29 +1,25 @@
 -- THE RESULTS: what every public call gives, on every ordered tree.
 -- Assumes nothing.
 use mathlib.Core.Path.{_≡_, refl, sym, ap, _∙_, subst}
-use mathlib.Core.Logic.{_⊎_, inl, inr}
 use mathlib.Core.Bool.{Bool, true, false, not, cond, _&&_, _||_, true≢false}
 use mathlib.Core.List.{List, [], _∷_, _++_}
-use mathlib.Core.Option.{Option, none, some}
-use Prim.Native.Nat.{ℕ, _+_, _*_, _≤_}
+use mathlib.Core.Option.{none, some}
 use Rattle.key_order.specs.declared.Ordering.{Ordering}
 use Rattle.key_order.specs.declared.Ordering.the-variants.{Less, Equal, Greater}
-use Rattle.key_order.specs.Order.{Key, cmp, pick, isPrefixOf}
-use Rattle.key_order.proofs.Laws.{cmp-refl, cmp-eq, cmp-trans, cmp-turn, gt-lt, lt-gt, lt≢eq, lt≢gt, gt≢eq}
-use Rattle.hash_tree.specs.HashTree.{HashTree, Empty, Fork, Labeled, Leaf, Pruned, emptyHash, digest}
-use Rattle.llrb.specs.Tree.{Value, Entry, Tree, nil, node, entries, get}
-use Rattle.llrb.specs.Sorted.{Above, Sorted, Mem}
-use Rattle.llrb.specs.Shape.{height}
-use Rattle.llrb.specs.History.{Op, run, runMap}
-use Rattle.llrb.specs.Map.{Pair, pair, pairs, findE}
+use Rattle.key_order.specs.Order.{Key, cmp, pick}
+use Rattle.key_order.proofs.Laws.{cmp-refl, cmp-eq, gt-lt, lt-gt, lt≢eq, gt≢eq}
+use Rattle.hash_tree.specs.HashTree.{Empty, emptyHash, digest}
+use Rattle.llrb.specs.Tree.{Entry, Tree, nil, entries, get}
+use Rattle.llrb.specs.Sorted.{Above, Sorted}
+use Rattle.llrb.specs.Map.{pairs, findE}
 use Rattle.llrb.proofs.Get.{get-find, find-some, find-none}
 use Rattle.llrb.specs.Digests.{subtreeDigest}
-use Rattle.witness_trees.specs.Reading.{labels, leaves, Told, says, depth}
-use Rattle.witness_trees.specs.Shown.{What, Hide, Label, Show, isHide, item, shown}
-use Rattle.witness_trees.specs.Witness.{Form, keysOnly, values, seen, lowerBound, upperBound, rightPrefixNeighbor, fullWitnessTree, rangeWitness, lookupAndBuildWitness, asHashTree, keys, keyRange, valueRange, keysWithPrefix, witness}
-use Rattle.witness_trees.specs.Rules.{In, here, there, Lt, Le, upto, below, noneOf, nextBelow, nextAbove, wanted, wantedPrefix, within, rangeRule, prefixRule, keysOf, filter, keysIn, valuesIn, tells, Witness, every, nothing}
-use Rattle.witness_trees.proofs.Shown.{digest-shown, Reads, reads-labels, reads-leaves, reads-says, flat, reads-shown, depth-shown}
-use Rattle.witness_trees.proofs.Lists.{lt-irr, mem-in, above-in}
+use Rattle.witness_trees.specs.Reading.{labels, leaves, says}
+use Rattle.witness_trees.specs.Shown.{What, Hide, Label, Show, item, shown}
+use Rattle.witness_trees.specs.Witness.{keysOnly, values, lowerBound, upperBound, rightPrefixNeighbor, fullWitnessTree, rangeWitness, lookupAndBuildWitness, asHashTree, keys, keyRange, valueRange, keysWithPrefix, witness}
+use Rattle.witness_trees.specs.Rules.{In, here, there, Le, upto, below, noneOf, nextBelow, nextAbove, wanted, wantedPrefix, within, rangeRule, prefixRule, keysOf, filter, valuesIn, tells, Witness, every, nothing}
+use Rattle.witness_trees.proofs.Shown.{digest-shown, reads-labels, reads-leaves, reads-says, flat, reads-shown, depth-shown}
+use Rattle.witness_trees.proofs.Lists.{mem-in, above-in}
 use Rattle.witness_trees.proofs.Rules.{none-not}
 use Rattle.witness_trees.proofs.Calls.{as-hash-tree-is, keys-is, key-range-is, value-range-is, keys-with-prefix-is, witness-is}
 
@@ -101,16 +97,16 @@ pub key-range-witness : (first last : Key) (t : Tree) → Sorted (entries t) →
 key-range-witness first last t s h =
     let ks = keysOf (entries t) in
     rw (key-range-is first last t s h) (shown-witness (rangeRule first last ks keysOnly) (wanted first last ks) nothing t
-      (λ e i. rule-keys (within first last (e .key)) (nextBelow first ks (e .key) || nextAbove last ks (e .key)))
-      (λ e u. absurd (true≢false (sym u))))
+    (λ e i. rule-keys (within first last (e .key)) (nextBelow first ks (e .key) || nextAbove last ks (e .key)))
+    (λ e u. absurd (true≢false (sym u))))
 
 pub value-range-witness : (first last : Key) (t : Tree) → Sorted (entries t) → Le first last
     → Witness t (pairs (entries t)) (wanted first last (keysOf (entries t))) (within first last) (valueRange first last t)
 value-range-witness first last t s h =
     let ks = keysOf (entries t) in
     rw (value-range-is first last t s h) (shown-witness (rangeRule first last ks values) (wanted first last ks) (within first last) t
-      (λ e i. rule-values (within first last (e .key)) (nextBelow first ks (e .key) || nextAbove last ks (e .key)))
-      (λ e u. or-left (within first last (e .key)) (nextBelow first ks (e .key) || nextAbove last ks (e .key)) u))
+    (λ e i. rule-values (within first last (e .key)) (nextBelow first ks (e .key) || nextAbove last ks (e .key)))
+    (λ e u. or-left (within first last (e .key)) (nextBelow first ks (e .key) || nextAbove last ks (e .key)) u))
 
 pub prefix-witness : (p : Key) (t : Tree) → Sorted (entries t)
     → Witness t (pairs (entries t)) (wantedPrefix p (keysOf (entries t))) nothing (keysWithPrefix p t)
@@ -123,8 +119,8 @@ pub one-witness : (k : Key) (t : Tree) → Sorted (entries t)
 one-witness k t s =
     let ks = keysOf (entries t) in
     rw (witness-is k t s) (shown-witness (rangeRule k k ks values) (wanted k k ks) (within k k) t
-      (λ e i. rule-values (within k k (e .key)) (nextBelow k ks (e .key) || nextAbove k ks (e .key)))
-      (λ e u. or-left (within k k (e .key)) (nextBelow k ks (e .key) || nextAbove k ks (e .key)) u))
+    (λ e i. rule-values (within k k (e .key)) (nextBelow k ks (e .key) || nextAbove k ks (e .key)))
+    (λ e u. or-left (within k k (e .key)) (nextBelow k ks (e .key) || nextAbove k ks (e .key)) u))
 
 -- ---- the same in plainer words where there are some
 
@@ -199,9 +195,10 @@ pub witness-present : (b : Entry) (t : Tree) → Sorted (entries t) → In b (en
 witness-present b t s i =
     let k = b .key in
     let no = not-wanted k (entries t) b i refl in
-    let on = wanted-self k (keysOf (entries t)) in
-    (one-witness k t s .labelled ∙ filter-one (wanted k k (keysOf (entries t))) b no on s i,
-      one-witness k t s .told ∙ tells-one (wanted k k (keysOf (entries t))) b no on s i)
+    let on = wanted-self k (keysOf (entries t)) in (
+      one-witness k t s .labelled ∙ filter-one (wanted k k (keysOf (entries t))) b no on s i,
+      one-witness k t s .told ∙ tells-one (wanted k k (keysOf (entries t))) b no on s i,
+    )
 
 -- of an absent key: its neighbours, no value
 same-filter : (g h : Key → Bool) (L : List Entry) → ((e : Entry) → In e L → g (e .key) ≡ h (e .key)) → filter g (keysOf L) ≡ filter h (keysOf L)
@@ -224,9 +221,10 @@ pub witness-absent : (k : Key) (t : Tree) → Sorted (entries t) → ((x : Entry
     → (labels (witness k t) ≡ filter (λ x. nextBelow k (keysOf (entries t)) x || nextAbove k (keysOf (entries t)) x) (keysOf (entries t)))
     × (leaves (witness k t) ≡ [])
 witness-absent k t s n =
-    let ks = keysOf (entries t) in
-    (one-witness k t s .labelled ∙ same-filter (wanted k k ks) (λ x. nextBelow k ks x || nextAbove k ks x) (entries t) (λ e i. rw (not-within k (e .key) (n e i))),
-      one-witness k t s .valued ∙ same-values (within k k) nothing (entries t) (λ e i. not-within k (e .key) (n e i)) ∙ values-none (entries t))
+    let ks = keysOf (entries t) in (
+      one-witness k t s .labelled ∙ same-filter (wanted k k ks) (λ x. nextBelow k ks x || nextAbove k ks x) (entries t) (λ e i. rw (not-within k (e .key) (n e i))),
+      one-witness k t s .valued ∙ same-values (within k k) nothing (entries t) (λ e i. not-within k (e .key) (n e i)) ∙ values-none (entries t),
+    )
 
 -- the same by what `get` answers
 find-in : (k : Key) (L : List Entry) (e : Entry) → findE k L ≡ some e → In e L × (k ≡ e .key)
@@ -252,10 +250,10 @@ pub witness-missing : (k : Key) (t : Tree) → Sorted (entries t) → get k t �
 witness-missing k t s h =
     witness-absent k t s (λ x i q. find-none k (entries t) (sym (get-find k t s) ∙ h) (rw (cmp-eq k (x .key) q) (mem-in i)))
 
--- a neighbour never shows its value
-pub neighbour-hidden : (first last : Key) (ks : List Key) (k : Key) → Le first last
+-- a Neighbor never shows its value
+pub neighbor-hidden : (first last : Key) (ks : List Key) (k : Key) → Le first last
     → (nextBelow first ks k || nextAbove last ks k) ≡ true → within first last k ≡ false
-neighbour-hidden first last ks k h u =
+neighbor-hidden first last ks k h u =
     go (cmp first k) refl (cmp k last) refl (noneOf (λ x. below k x && upto x first) ks) (noneOf (λ x. upto last x && below x k) ks) u
   where
     go : (o : Ordering) → cmp first k ≡ o → (v : Ordering) → cmp k last ≡ v → (a b : Bool)

@@ -1,19 +1,16 @@
 -- What holds of `shown f t` for every rule f and every tree: digest, what it says, depth, and when it is Pruned.
 -- Assumes nothing.
-use mathlib.Core.Path.{_≡_, refl, sym, ap, ap₂, _∙_}
-use mathlib.Core.Logic.{_⊎_, inl, inr}
+use mathlib.Core.Path.{_≡_, refl, sym, ap, _∙_}
 use mathlib.Core.Bool.{Bool, true, false, not, cond, _&&_, true≢false, and-assoc}
 use mathlib.Core.List.{List, [], _∷_, _++_, append-nil, append-assoc}
-use mathlib.Core.Option.{Option, none, some}
-use Prim.Native.Nat.{ℕ, zero, suc, _+_, _*_, _≤_, max}
+use Prim.Native.Nat.{suc, _+_, _*_, _≤_, max}
 use native.Mathlib.Omega.{arith}
-use Rattle.key_order.specs.Order.{Key}
-use Rattle.hash_tree.specs.HashTree.{Digest, HashTree, Empty, Fork, Labeled, Leaf, Pruned, emptyHash, forkHash, labeledHash, leafHash, digest}
-use Rattle.llrb.specs.Tree.{Value, Entry, Tree, nil, node, entries}
+use Rattle.hash_tree.specs.HashTree.{Digest, HashTree, Empty, Fork, Labeled, Leaf, Pruned, forkHash, digest}
+use Rattle.llrb.specs.Tree.{Entry, Tree, nil, node, entries}
 use Rattle.llrb.specs.Shape.{height}
 use Rattle.llrb.specs.Digests.{dataDigest, nodeDigest, isNil, subtreeDigest}
-use Rattle.witness_trees.specs.Reading.{isEmpty, isPruned, labels, leaves, Told, under, says, depth}
-use Rattle.witness_trees.specs.Shown.{three, threeWayFork, threeWayForkShort, spread, traced, What, Hide, Label, Show, isHide, item, quiet, shown}
+use Rattle.witness_trees.specs.Reading.{isEmpty, isPruned, labels, leaves, says, depth}
+use Rattle.witness_trees.specs.Shown.{three, threeWayFork, spread, traced, What, Hide, Label, Show, isHide, item, quiet, shown}
 
 -- a branch, each arm with its equation; the arms themselves are found in the goal
 pub branch : {X : Type 0} (P : X → Type 0) (b : Bool) {x y : X} → (b ≡ true → P x) → (b ≡ false → P y) → P (cond b x y)
@@ -32,10 +29,10 @@ digest-join l m r =
     branch P (isEmpty l && isEmpty r)
     (λ h. let k = and-true (isEmpty l) (isEmpty r) h in rw (k .0, k .1))
     (λ h. branch P (isEmpty r)
-      (λ y. rw (y, left-full h y))
-      (λ y. branch P (isEmpty l)
-        (λ x. rw (x, y))
-        (λ x. branch P (three l m r) (λ u. rw (x, y)) (λ u. branch P (isPruned m && isPruned r) (λ v. rw (x, y)) (λ v. rw (x, y))))))
+    (λ y. rw (y, left-full h y))
+    (λ y. branch P (isEmpty l)
+    (λ x. rw (x, y))
+    (λ x. branch P (three l m r) (λ u. rw (x, y)) (λ u. branch P (isPruned m && isPruned r) (λ v. rw (x, y)) (λ v. rw (x, y))))))
   where
     P : HashTree → Type 0
     P u = digest u ≡ nodeDigest (isEmpty l) (isEmpty r) (digest l) (digest m) (digest r)
@@ -62,8 +59,8 @@ join-cases P l m r p₁ p₂ p₃ p₄ p₅ p₆ = go (isEmpty l) (isEmpty r) (t
   where
     go : (a b c d : Bool) → isEmpty l ≡ a → isEmpty r ≡ b → three l m r ≡ c → (isPruned m && isPruned r) ≡ d
         → P (cond (a && b) m (cond b (Fork l m) (cond a (Fork m r)
-          (cond c (Pruned (forkHash (digest l) (forkHash (digest m) (digest r))))
-          (cond d (Fork l (Pruned (forkHash (digest m) (digest r)))) (Fork l (Fork m r)))))))
+        (cond c (Pruned (forkHash (digest l) (forkHash (digest m) (digest r))))
+        (cond d (Fork l (Pruned (forkHash (digest m) (digest r)))) (Fork l (Fork m r)))))))
     go true true c d x y u v = p₁ x y
     go true false c d x y u v = p₃ x y
     go false true c d x y u v = p₂ x y
@@ -103,7 +100,7 @@ empty-shown f nil = ap isEmpty (shown-nil f)
 empty-shown f (node c e l r) =
     node-cases (λ u. isEmpty u ≡ false) f c e l r (λ h. refl)
     (λ h. join-cases (λ u. isEmpty u ≡ false) (shown f l) (item (f e) e) (shown f r)
-      (λ x y. item-full (f e) e) (λ x y. refl) (λ x y. refl) (λ x y u. refl) (λ x y u. refl) (λ x y u. refl))
+    (λ x y. item-full (f e) e) (λ x y. refl) (λ x y. refl) (λ x y u. refl) (λ x y u. refl) (λ x y u. refl))
 
 pub digest-shown : (f : Entry → What) (t : Tree) → digest (shown f t) ≡ subtreeDigest t
 unfolding shown subtreeDigest
@@ -156,12 +153,12 @@ module _ {X : Type 0} (m : HashTree → List X) (ok : Reads m) where
       (λ x y. rw (none-empty r y, append-nil (m p)) (ok .fork l p))
       (λ x y. rw (none-empty l x) (ok .fork p r))
       (λ x y u.
-        let h = and-true (isPruned l) (isPruned p && isPruned r) u in
-        let k = and-true (isPruned p) (isPruned r) (h .1) in
-        rw (none-pruned l (h .0), none-pruned p (k .0), none-pruned r (k .1)) (ok .pruned _))
+      let h = and-true (isPruned l) (isPruned p && isPruned r) u in
+      let k = and-true (isPruned p) (isPruned r) (h .1) in
+      rw (none-pruned l (h .0), none-pruned p (k .0), none-pruned r (k .1)) (ok .pruned _))
       (λ x y v.
-        let k = and-true (isPruned p) (isPruned r) v in
-        rw (ok .fork l (Pruned (forkHash (digest p) (digest r))), ok .pruned, none-pruned p (k .0), none-pruned r (k .1)))
+      let k = and-true (isPruned p) (isPruned r) v in
+      rw (ok .fork l (Pruned (forkHash (digest p) (digest r))), ok .pruned, none-pruned p (k .0), none-pruned r (k .1)))
       (λ x y v. rw (ok .fork l (Fork p r), ok .fork p r))
 
   flat-append : (g : Entry → List X) (L M : List Entry) → flat g (L ++ M) ≡ flat g L ++ flat g M
@@ -207,7 +204,7 @@ depth-shown f (node c e l r) =
     let k = depth-item (f e) e in
     node-cases P f c e l r (λ h. omega arith)
     (λ h. join-cases P (shown f l) (item (f e) e) (shown f r)
-      (λ x y. omega arith) (λ x y. omega arith) (λ x y. omega arith) (λ x y u. omega arith) (λ x y u. omega arith) (λ x y u. omega arith))
+    (λ x y. omega arith) (λ x y. omega arith) (λ x y. omega arith) (λ x y u. omega arith) (λ x y u. omega arith) (λ x y u. omega arith))
   where
     P : HashTree → Type 0
     P u = depth u ≤ 2 * suc (max (height l) (height r)) + 2
@@ -244,7 +241,7 @@ not-three f e l r p q h = go (three (shown f l) (item (f e) e) (shown f r)) refl
         let u = and-true (isPruned (shown f l)) (isPruned (item (f e) e) && isPruned (shown f r)) k in
         let v = and-true (isPruned (item (f e) e)) (isPruned (shown f r)) (u .1) in
         absurd (true≢false (sym (quiet-append f (entries l) (e ∷ entries r)
-          ∙ rw (quiet-of f l p (u .0), sym (pruned-item (f e) e) ∙ v .0, quiet-of f r q (v .1))) ∙ h))
+        ∙ rw (quiet-of f l p (u .0), sym (pruned-item (f e) e) ∙ v .0, quiet-of f r q (v .1))) ∙ h))
 
 pub pruned-is : (f : Entry → What) (t : Tree) → PrunedIs f t
 pruned-is f nil = ap isPruned (shown-nil f)
@@ -253,14 +250,15 @@ pruned-is f (node c e l r) =
     let q = pruned-is f r in
     node-cases P f c e l r (λ h. sym h)
     (λ h. join-cases P (shown f l) (item (f e) e) (shown f r)
-      (λ x y. pruned-item (f e) e ∙ sym (quiet-append f (entries l) (e ∷ entries r)
-        ∙ rw (nil-quiet f l (sym (empty-shown f l) ∙ x), nil-quiet f r (sym (empty-shown f r) ∙ y)) (and-true-right (isHide (f e)))))
-      (λ x y. sym h) (λ x y. sym h)
-      (λ x y u. absurd (true≢false (sym u ∙ not-three f e l r p q h)))
-      (λ x y u. sym h) (λ x y u. sym h))
+    (λ x y. pruned-item (f e) e ∙ sym (quiet-append f (entries l) (e ∷ entries r)
+    ∙ rw (nil-quiet f l (sym (empty-shown f l) ∙ x), nil-quiet f r (sym (empty-shown f r) ∙ y)) (and-true-right (isHide (f e)))))
+    (λ x y. sym h) (λ x y. sym h)
+    (λ x y u. absurd (true≢false (sym u ∙ not-three f e l r p q h)))
+    (λ x y u. sym h) (λ x y u. sym h))
   where
     P : HashTree → Type 0
     P u = isPruned u ≡ quiet f (entries l ++ (e ∷ entries r))
+
     and-true-right : (b : Bool) → (b && true) ≡ b
     and-true-right true = refl
     and-true-right false = refl
@@ -281,15 +279,16 @@ traced-shown f (node c e l r) =
     node-cases (λ u. traced f (node c e l r) ≡ u) f c e l r
     (λ h. rw h)
     (λ h. rw (h, p, q) (join-cases P (shown f l) (item (f e) e) (shown f r)
-      (λ x y. rw (sym (empty-shown f l) ∙ x, sym (empty-shown f r) ∙ y))
-      (λ x y. rw (sym (empty-shown f l) ∙ x, sym (empty-shown f r) ∙ y))
-      (λ x y. rw (sym (empty-shown f l) ∙ x, sym (empty-shown f r) ∙ y))
-      (λ x y u. absurd (true≢false (sym u ∙ never-three f e l r h)))
-      (λ x y u. rw (sym (empty-shown f l) ∙ x, sym (empty-shown f r) ∙ y, pair y u, digest-item (f e) e, digest-shown f r))
-      (λ x y u. rw (sym (empty-shown f l) ∙ x, sym (empty-shown f r) ∙ y, pair y u))))
+    (λ x y. rw (sym (empty-shown f l) ∙ x, sym (empty-shown f r) ∙ y))
+    (λ x y. rw (sym (empty-shown f l) ∙ x, sym (empty-shown f r) ∙ y))
+    (λ x y. rw (sym (empty-shown f l) ∙ x, sym (empty-shown f r) ∙ y))
+    (λ x y u. absurd (true≢false (sym u ∙ never-three f e l r h)))
+    (λ x y u. rw (sym (empty-shown f l) ∙ x, sym (empty-shown f r) ∙ y, pair y u, digest-item (f e) e, digest-shown f r))
+    (λ x y u. rw (sym (empty-shown f l) ∙ x, sym (empty-shown f r) ∙ y, pair y u))))
   where
     P : HashTree → Type 0
     P u = spread (isNil l) (isNil r) (isHide (f e) && quiet f (entries r)) (forkHash (dataDigest e) (subtreeDigest r)) (shown f l) (item (f e) e) (shown f r) ≡ u
+
     pair : isEmpty (shown f r) ≡ false → {b : Bool} → (isPruned (item (f e) e) && isPruned (shown f r)) ≡ b → (isHide (f e) && quiet f (entries r)) ≡ b
     pair y u = rw (← (pruned-item (f e) e)) (rw (pruned-is f r, sym (empty-shown f r) ∙ y) at u)
 

@@ -4,16 +4,16 @@ use mathlib.Core.Path.{_≡_}
 use mathlib.Core.Bool.{Bool, true, false, not, cond, _&&_, _||_}
 use mathlib.Core.List.{List, [], _∷_}
 use mathlib.Core.Option.{Option, none, some}
-use Prim.Native.Nat.{ℕ, _+_, _*_, _≤_}
+use Prim.Native.Nat.{_+_, _*_, _≤_}
 use Rattle.key_order.specs.declared.Ordering.the-variants.{Less}
 use Rattle.key_order.specs.Order.{Key, cmp, pick, isPrefixOf}
 use Rattle.hash_tree.specs.HashTree.{HashTree, digest}
-use Rattle.llrb.specs.Tree.{Value, Entry, Tree, entries}
+use Rattle.llrb.specs.Tree.{Value, Entry, Tree}
 use Rattle.llrb.specs.Map.{Pair, pairs}
 use Rattle.llrb.specs.Shape.{height}
 use Rattle.llrb.specs.Digests.{rootHash}
 use Rattle.witness_trees.specs.Reading.{labels, leaves, Told, says, depth}
-use Rattle.witness_trees.specs.Shown.{What, Hide, Label, Show}
+use Rattle.witness_trees.specs.Shown.{What, Hide, Label}
 use Rattle.witness_trees.specs.Witness.{Form, seen, KeyBound, Exact, Neighbor}
 
 -- ---- what a bound is

@@ -1,7 +1,7 @@
-use Prim.Native.Nat.{_≤_, _<_, _-_}
-use mathlib.Core.Path.{_≡_, refl, _∙_}
+use Prim.Native.Nat.{_≤_, _-_}
+use mathlib.Core.Path.{_≡_, refl}
 use native.Mathlib.Omega.{arith}
-use lib.ListN.{length, take, length-set}
+use lib.ListN.{length, take}
 use borrow.Author.Needs.{needs}
 use Rattle.hash_tree.proofs.Copying.{copy-next, copied}
 use Rattle.hash_tree.proofs.copy32.Statement.{statement}

@@ -1,6 +1,5 @@
 use mathlib.Core.Path.{_∙_}
 use borrow.Author.Tests.{not-true, not-false}
-use Rattle.hash_tree.specs.Steps.{joinLabeled}
 use borrow.Author.Needs.{needs}
 use Rattle.hash_tree.proofs.join_labeled.Statement.{statement}
 use Rattle.hash_tree.proofs.join_labeled.Tie as tie

@@ -3,7 +3,6 @@ use native.Mathlib.Omega.{arith}
 use lib.ListN.{length-drop}
 use lib.Seq.{length-take-le}
 use borrow.Author.Tests.{eq-eqb, ne-eqb}
-use Rattle.hash_tree.specs.Steps.{singleStep}
 use borrow.Author.Needs.{needs}
 use Rattle.hash_tree.proofs.single.Statement.{statement}
 use Rattle.hash_tree.proofs.single.Tie as tie

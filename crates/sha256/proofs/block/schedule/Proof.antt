@@ -1,12 +1,12 @@
 use Rattle.sha256.proofs.Lists.{snoc, next-take}
 use Rattle.sha256.specs.Rounds.{blockWords, next, schedule}
 use lib.Seq.{take-all}
-use lib.ListN.{length, take, getD, length-set}
+use lib.ListN.{length, take, length-set}
 use borrow.Author.Needs.{needs}
 use native.Mathlib.Numerals.{add-one}
 use native.Mathlib.Nat.{add-zero}
 use native.Mathlib.Omega.{arith}
-use Prim.Native.Nat.{ℕ, suc, _+_, _%_, _≤_, _-_}
+use Prim.Native.Nat.{suc, _+_, _%_, _≤_, _-_}
 use mathlib.Core.Path.{_≡_, refl, ap, sym, _∙_}
 use Rattle.sha256.proofs.block.schedule.Statement.{statement}
 use Rattle.sha256.proofs.block.schedule.Tie as tie

@@ -1,4 +1,4 @@
-use Rattle.sha256.specs.Rounds.{Compress, plus, Rounds}
+use Rattle.sha256.specs.Rounds.{Compress}
 use borrow.Author.Needs.{needs}
 use Rattle.sha256.proofs.block.Eight.compress.Statement.{statement}
 use Rattle.sha256.proofs.block.Eight.compress.Tie as tie

@@ -4,10 +4,9 @@ use Rattle.sha256.specs.Rounds.{Round, Rounds}
 use Rattle.sha256.specs.Constants.{K}
 use lib.ListN.{getD}
 use borrow.Author.Needs.{needs}
-use native.Mathlib.Numerals.{add-one}
-use native.Mathlib.Nat.{add-zero, add-suc}
+use native.Mathlib.Nat.{add-zero}
 use native.Mathlib.Omega.{arith}
-use Prim.Native.Nat.{ℕ, _+_, _%_, _≤_, _-_}
+use Prim.Native.Nat.{_+_, _%_, _≤_, _-_}
 use mathlib.Core.Path.{_≡_, refl, ap, _∙_}
 use Rattle.sha256.proofs.block.Eight.rounds.Statement.{statement}
 use Rattle.sha256.proofs.block.Eight.rounds.Tie as tie
