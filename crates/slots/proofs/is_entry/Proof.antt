@@ -1,0 +1,63 @@
+use borrow.Author.Tests.{not-true, not-false}
+use native.Mathlib.Omega.{arith}
+use Rattle.slots.proofs.Testing.{clash, decides-via, decides-yes, decides-no, is-live, is-plain, is-short, is-small, is-key, is-value, entry-by}
+use borrow.Author.Needs.{needs}
+use Rattle.slots.proofs.is_entry.Statement.{statement}
+use Rattle.slots.proofs.is_entry.Tie as tie
+use Rattle.slots.proofs.is_entry.Reads as reads
+use Rattle.slots.proofs.is_entry.Lts as lts
+use Rattle.slots.proofs.key_padded.Reads as key-padded-reads
+use Rattle.slots.proofs.value_padded.Reads as value-padded-reads
+
+-- src/lib.rt:502:9
+returns : tie.Need-returns
+returns c =
+    λ q. clash (is-live _ _ _ (c .before .before .before .pre .0) (c .before .before .before .pre .1) q) (not-true _ (c .if1 .taken))
+
+-- src/lib.rt:505:9
+returns-2 : tie.Need-returns-2
+returns-2 c =
+    λ q. c .if2 .taken (is-plain _ _ _ (c .before .before .before .before .before .pre .0) (c .before .before .before .before .before .pre .1) q)
+
+-- src/lib.rt:509:9
+returns-3 : tie.Need-returns-3
+returns-3 c =
+    λ q. let l = is-short _ _ _ (c .before .before .before .before .before .before .pre .0) (c .before .before .before .before .before .before .pre .1) q in omega (arith, c .if3 .taken)
+
+-- src/lib.rt:513:9
+returns-4 : tie.Need-returns-4
+returns-4 c =
+    λ q. let l = is-small _ _ _ (c .before .before .before .before .before .before .before .pre .0) (c .before .before .before .before .before .before .before .pre .1) q in omega (arith, c .if4 .taken)
+
+-- src/lib.rt:515:9
+key-padded-requires : tie.Need-key-padded-requires
+key-padded-requires c κs = search needs
+
+-- src/lib.rt:516:9
+returns-5 : tie.Need-returns-5
+returns-5 c =
+    λ q. decides-no (c .before .key-padded .result) (not-true (c .before .key-padded .result) (c .if5 .taken)) (c .before .key-padded .ensures) (is-key _ _ _ (c .before .before .before .before .before .before .before .before .before .pre .0) (c .before .before .before .before .before .before .before .before .before .pre .1) q)
+
+-- src/lib.rt:518:5
+value-padded-requires : tie.Need-value-padded-requires
+value-padded-requires c κs = search needs
+
+-- src/lib.rt:496:1
+returns-6 : tie.Need-returns-6
+returns-6 c =
+    decides-via (c .value-padded .result)
+    (λ v. entry-by _ _ _ (c .before .before .before .before .before .before .before .before .before .before .pre .0) (c .before .before .before .before .before .before .before .before .before .before .pre .1) (not-false _ (c .before .before .before .before .before .before .before .if1 .left)) (c .before .before .before .before .before .if2 .left) (c .before .before .before .before .if3 .left) (c .before .before .before .if4 .left) (decides-yes (c .before .before .key-padded .result) (not-false (c .before .before .key-padded .result) (c .before .if5 .left)) (c .before .before .key-padded .ensures)) v)
+    (λ q. is-value _ _ _ (c .before .before .before .before .before .before .before .before .before .before .pre .0) (c .before .before .before .before .before .before .before .before .before .before .pre .1) q) (c .value-padded .ensures)
+
+pub is-entry-spec : {M : Type 1} → statement M
+is-entry-spec =
+    tie.close
+    (tie.spec
+    returns
+    returns-2
+    returns-3
+    returns-4
+    key-padded-requires
+    returns-5
+    value-padded-requires
+    returns-6)

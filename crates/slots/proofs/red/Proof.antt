@@ -1,0 +1,20 @@
+use mathlib.Core.Path.{ap}
+use Rattle.slots.specs.declared.Head.{Head}
+use borrow.Author.Needs.{needs}
+use Rattle.slots.proofs.red.Statement.{statement}
+use Rattle.slots.proofs.red.Tie as tie
+use Rattle.slots.proofs.red.Reads as reads
+use Rattle.slots.proofs.red.Lts as lts
+use Rattle.slots.proofs.head_of.Reads as head-of-reads
+
+-- src/lib.rt:278:5
+head-of-requires : tie.Need-head-of-requires
+head-of-requires c κs = search needs
+
+-- src/lib.rt:274:1
+returns : tie.Need-returns
+returns c =
+    ap (λ (h : Head). h .red) (c .head-of .ensures)
+
+pub red-spec : {M : Type 1} → statement M
+red-spec = tie.close (tie.spec head-of-requires returns)

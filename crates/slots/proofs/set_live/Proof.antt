@@ -1,0 +1,29 @@
+use Rattle.slots.proofs.Coding.{live-fits, live-set}
+use borrow.Author.Needs.{needs}
+use Rattle.slots.proofs.set_live.Statement.{statement}
+use Rattle.slots.proofs.set_live.Tie as tie
+use Rattle.slots.proofs.set_live.Reads as reads
+use Rattle.slots.proofs.set_live.Lts as lts
+use Rattle.slots.proofs.header_of.Reads as header-of-reads
+use Rattle.slots.proofs.set_header.Reads as set-header-reads
+
+-- src/lib.rt:161:9
+header-of-requires : tie.Need-header-of-requires
+header-of-requires c κs = search needs
+
+-- src/lib.rt:163:5
+set-header-requires : tie.Need-set-header-requires
+set-header-requires c κs =
+    (c .before .before .before .before .pre .0, live-fits _ (c .before .header-of .ensures) (c .before .before .before .before .pre .1))
+
+-- src/lib.rt:156:1
+same-length : tie.Need-same-length
+same-length c = search needs
+
+-- src/lib.rt:156:1
+returns : tie.Need-returns
+returns c =
+    live-set _ _ _ (c .before .before .before .before .header-of .ensures) (c .before .before .set-header .ensures)
+
+pub set-live-spec : {M : Type 1} → statement M
+set-live-spec = tie.close (tie.spec header-of-requires set-header-requires same-length returns)

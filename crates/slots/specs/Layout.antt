@@ -1,0 +1,219 @@
+-- The store's layout (document 01, "Store layout"): where header, heads, keys, values and digests lie, and what is read there.
+-- The places are functions of the store's length and the slot; nothing outside this crate opens them.
+-- Assumes nothing: these are definitions.
+use mathlib.Core.Path.{_≡_}
+use mathlib.Core.Bool.{Bool, true, false}
+use mathlib.Core.List.{List, [], _∷_, _++_}
+use Prim.Native.Nat.{ℕ, _+_, _-_, _*_, _≤_, _<_}
+use lib.ListN.{length, getD, take, drop, replicate}
+use Rattle.slots.specs.Bits.{joined, recut, octets, flag, bit}
+use Rattle.slots.specs.declared.Header.{Header}
+use Rattle.slots.specs.declared.Head.{Head}
+
+-- ---- places
+
+-- the length of a store of this capacity
+abbrev pub storeLength : (capacity : ℕ) → ℕ
+storeLength cap = 8 + 150 * cap
+
+-- a store of n bytes has a slot i, and a link of 11 bits can name it; slots are numbered from 1
+pub record HasSlot (n i : ℕ) : Type 0 where
+  pub low : 1 ≤ i
+  pub high : i < 2048
+  pub fits : storeLength i ≤ n
+
+-- where the parts of slot i lie in a store of n bytes
+unfoldable pub headAt : (n i : ℕ) → ℕ
+headAt n i = 8 + 150 * (i - 1)
+
+unfoldable pub keyAt : (n i : ℕ) → ℕ
+keyAt n i = headAt n i + 6
+
+unfoldable pub valueAt : (n i : ℕ) → ℕ
+valueAt n i = headAt n i + 54
+
+unfoldable pub digestAt : (n i : ℕ) → ℕ
+digestAt n i = headAt n i + 118
+
+-- the rooms that a store's bytes are divided into
+pub data Room : Type 0 where
+  TheHeader : Room
+  HeadOf KeyOf ValueOf DigestOf : (slot : ℕ) → Room
+
+unfoldable pub place : ℕ → Room → ℕ
+place n TheHeader = 0
+place n (HeadOf i) = headAt n i
+place n (KeyOf i) = keyAt n i
+place n (ValueOf i) = valueAt n i
+place n (DigestOf i) = digestAt n i
+
+abbrev pub size : Room → ℕ
+size TheHeader = 8
+size (HeadOf i) = 6
+size (KeyOf i) = 48
+size (ValueOf i) = 64
+size (DigestOf i) = 32
+
+-- n bytes of s from a on
+abbrev pub part : (a n : ℕ) → List ℕ → List ℕ
+part a n s = take n (drop a s)
+
+-- the bytes of a room
+unfoldable pub room : List ℕ → Room → List ℕ
+room s r = part (place (length s) r) (size r) s
+
+-- ---- the header: the record is the code's struct, its fields in the order of the document
+
+abbrev pub headerWidths : List ℕ
+headerWidths = 4 ∷ 11 ∷ 11 ∷ 11 ∷ 11 ∷ 16 ∷ []
+
+abbrev pub headerValues : Header → List ℕ
+headerValues h = h .edition ∷ h .capacity ∷ h .live ∷ h .root ∷ h .free ∷ h .zero ∷ []
+
+abbrev pub headerFrom : List ℕ → Header
+headerFrom v =
+    record { edition = getD v 0 0; capacity = getD v 1 0; live = getD v 2 0; root = getD v 3 0; free = getD v 4 0; zero = getD v 5 0 }
+
+unfoldable pub header : List ℕ → Header
+header s = headerFrom (recut (octets 8) headerWidths (room s TheHeader))
+
+-- the fields fit their widths
+pub record HeaderFits (h : Header) : Type 0 where
+  pub edition : h .edition < 16
+  pub capacity : h .capacity < 2048
+  pub live : h .live < 2048
+  pub root : h .root < 2048
+  pub free : h .free < 2048
+  pub zero : h .zero < 65536
+
+-- ---- slots: all of a slot but its digest
+
+pub record Slot : Type 0 where
+  pub live : Bool
+  pub red : Bool
+  pub left : ℕ
+  pub right : ℕ
+  pub keyLength : ℕ
+  pub valueLength : ℕ
+  pub zero : ℕ
+  pub keyRoom : List ℕ
+  pub valueRoom : List ℕ
+
+abbrev pub headWidths : List ℕ
+headWidths = 1 ∷ 1 ∷ 11 ∷ 11 ∷ 6 ∷ 7 ∷ 11 ∷ []
+
+abbrev pub headValues : Slot → List ℕ
+headValues v = bit (v .live) ∷ bit (v .red) ∷ v .left ∷ v .right ∷ v .keyLength ∷ v .valueLength ∷ v .zero ∷ []
+
+abbrev pub slotFrom : (head keyRoom valueRoom : List ℕ) → Slot
+slotFrom v k w =
+    record {
+      live = flag (getD v 0 0);
+      red = flag (getD v 1 0);
+      left = getD v 2 0;
+      right = getD v 3 0;
+      keyLength = getD v 4 0;
+      valueLength = getD v 5 0;
+      zero = getD v 6 0;
+      keyRoom = k;
+      valueRoom = w;
+    }
+
+unfoldable pub slot : List ℕ → ℕ → Slot
+slot s i = slotFrom (recut (octets 6) headWidths (room s (HeadOf i))) (room s (KeyOf i)) (room s (ValueOf i))
+
+-- the fields fit their widths, and the rooms have their sizes
+pub record SlotFits (v : Slot) : Type 0 where
+  pub left : v .left < 2048
+  pub right : v .right < 2048
+  pub keyLength : v .keyLength < 64
+  pub valueLength : v .valueLength < 128
+  pub zero : v .zero < 2048
+  pub keyRoom : length (v .keyRoom) ≡ 48
+  pub valueRoom : length (v .valueRoom) ≡ 64
+
+unfoldable pub digestOf : List ℕ → ℕ → List ℕ
+digestOf s i = room s (DigestOf i)
+
+-- ---- entries and free slots
+
+-- an entry's key is what its length leaves of its room; so with the value
+abbrev pub keyOf : Slot → List ℕ
+keyOf v = take (v .keyLength) (v .keyRoom)
+
+abbrev pub valueOf : Slot → List ℕ
+valueOf v = take (v .valueLength) (v .valueRoom)
+
+unfoldable pub zeros : ℕ → List ℕ
+zeros n = replicate n 0
+
+-- x in a room of n bytes: bytes past its length are zero
+unfoldable pub padded : ℕ → List ℕ → List ℕ
+padded n x = x ++ zeros (n - length x)
+
+-- the slot of an entry: the live bit is set
+abbrev pub nodeSlot : (red : Bool) (key value : List ℕ) (left right : ℕ) → Slot
+nodeSlot red key value left right =
+    record {
+      live = true;
+      red = red;
+      left = left;
+      right = right;
+      keyLength = length key;
+      valueLength = length value;
+      zero = 0;
+      keyRoom = padded 48 key;
+      valueRoom = padded 64 value;
+    }
+
+-- a free slot: all zero but for `left`, which names the next free slot
+abbrev pub freeSlot : (next : ℕ) → Slot
+freeSlot next =
+    record {
+      live = false;
+      red = false;
+      left = next;
+      right = 0;
+      keyLength = 0;
+      valueLength = 0;
+      zero = 0;
+      keyRoom = zeros 48;
+      valueRoom = zeros 64;
+    }
+
+-- slot i is one of an entry
+abbrev pub IsEntry : List ℕ → ℕ → Type 0
+IsEntry s i = slot s i ≡ nodeSlot (slot s i .red) (keyOf (slot s i)) (valueOf (slot s i)) (slot s i .left) (slot s i .right)
+
+-- slot i is free, its digest zero too
+abbrev pub IsFree : List ℕ → ℕ → Type 0
+IsFree s i = (slot s i ≡ freeSlot (slot s i .left)) × (digestOf s i ≡ zeros 32)
+
+-- ---- for the code
+
+-- the number in n bytes from a on
+unfoldable pub numberAt : (n : ℕ) → List ℕ → (a : ℕ) → ℕ
+numberAt n s a = joined (octets n) (part a n s)
+
+-- the head of a slot as the code's struct
+abbrev pub headOf : Slot → Head
+headOf v =
+    record { live = v .live; red = v .red; left = v .left; right = v .right; «key_length» = v .keyLength; «value_length» = v .valueLength; zero = v .zero }
+
+pub record HeadFits (h : Head) : Type 0 where
+  pub left : h .left < 2048
+  pub right : h .right < 2048
+  pub keyLength : h .«key_length» < 64
+  pub valueLength : h .«value_length» < 128
+  pub zero : h .zero < 2048
+
+-- n bytes at a and n bytes at b lie within a store of m bytes, and do not meet
+pub record CopiesWithin (m a b n : ℕ) : Type 0 where
+  pub to : a + n ≤ m
+  pub from : b + n ≤ m
+  pub apart : (k : ℕ) → a ≤ k → k < a + n → b ≤ k → k < b + n → ⊥
+
+-- a Bool that tells whether P holds
+abbrev pub Decides : Bool → Type 0 → Type 0
+Decides true P = P
+Decides false P = P → ⊥

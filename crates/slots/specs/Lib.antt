@@ -1,0 +1,4 @@
+-- Where each bit of a store lies.
+pub mod Bits
+pub mod Layout
+pub mod Setters

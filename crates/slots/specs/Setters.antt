@@ -1,0 +1,191 @@
+-- Stores with one thing changed, a store put together from its parts, and what it is that a change keeps.
+-- Assumes nothing: these are definitions.
+use mathlib.Core.Path.{_≡_}
+use mathlib.Core.Bool.{Bool}
+use mathlib.Core.List.{List}
+use Prim.Native.Nat.{ℕ, zero, suc}
+use lib.ListN.{length}
+use lib.Seq.{sets}
+use Rattle.slots.specs.Bits.{recut, octets, Bytes}
+use Rattle.slots.specs.declared.Header.{Header}
+use Rattle.slots.specs.declared.Head.{Head}
+use Rattle.slots.specs.Layout.{storeLength, HasSlot, Room, TheHeader, HeadOf, KeyOf, ValueOf, DigestOf, place, headerWidths, headerValues, header, Slot, headWidths, headValues, slot, digestOf, zeros, padded, freeSlot}
+
+-- s with the bytes of a room
+unfoldable pub putRoom : List ℕ → Room → List ℕ → List ℕ
+putRoom s r bytes = sets s (place (length s) r) bytes
+
+-- s with this header, with this slot i, with this digest in slot i
+unfoldable pub setHeader : List ℕ → Header → List ℕ
+setHeader s h = putRoom s TheHeader (recut headerWidths (octets 8) (headerValues h))
+
+unfoldable pub setSlot : List ℕ → ℕ → Slot → List ℕ
+setSlot s i v =
+    putRoom (putRoom (putRoom s (HeadOf i) (recut headWidths (octets 6) (headValues v))) (KeyOf i) (v .keyRoom)) (ValueOf i) (v .valueRoom)
+
+unfoldable pub setDigest : List ℕ → ℕ → List ℕ → List ℕ
+setDigest s i digest = putRoom s (DigestOf i) digest
+
+-- ---- one field of the header
+
+abbrev pub withLive : ℕ → Header → Header
+withLive x h = record { edition = h .edition; capacity = h .capacity; live = x; root = h .root; free = h .free; zero = h .zero }
+
+abbrev pub withRoot : ℕ → Header → Header
+withRoot x h = record { edition = h .edition; capacity = h .capacity; live = h .live; root = x; free = h .free; zero = h .zero }
+
+abbrev pub withFree : ℕ → Header → Header
+withFree x h = record { edition = h .edition; capacity = h .capacity; live = h .live; root = h .root; free = x; zero = h .zero }
+
+unfoldable pub setLive : List ℕ → ℕ → List ℕ
+setLive s x = setHeader s (withLive x (header s))
+
+unfoldable pub setRoot : List ℕ → ℕ → List ℕ
+setRoot s x = setHeader s (withRoot x (header s))
+
+unfoldable pub setFree : List ℕ → ℕ → List ℕ
+setFree s x = setHeader s (withFree x (header s))
+
+-- ---- one field of a slot, its value, its entry
+
+abbrev pub withRed : Bool → Slot → Slot
+withRed x v =
+    record {
+      live = v .live;
+      red = x;
+      left = v .left;
+      right = v .right;
+      keyLength = v .keyLength;
+      valueLength = v .valueLength;
+      zero = v .zero;
+      keyRoom = v .keyRoom;
+      valueRoom = v .valueRoom;
+    }
+
+abbrev pub withLeft : ℕ → Slot → Slot
+withLeft x v =
+    record {
+      live = v .live;
+      red = v .red;
+      left = x;
+      right = v .right;
+      keyLength = v .keyLength;
+      valueLength = v .valueLength;
+      zero = v .zero;
+      keyRoom = v .keyRoom;
+      valueRoom = v .valueRoom;
+    }
+
+abbrev pub withRight : ℕ → Slot → Slot
+withRight x v =
+    record {
+      live = v .live;
+      red = v .red;
+      left = v .left;
+      right = x;
+      keyLength = v .keyLength;
+      valueLength = v .valueLength;
+      zero = v .zero;
+      keyRoom = v .keyRoom;
+      valueRoom = v .valueRoom;
+    }
+
+abbrev pub withValue : List ℕ → Slot → Slot
+withValue x v =
+    record {
+      live = v .live;
+      red = v .red;
+      left = v .left;
+      right = v .right;
+      keyLength = v .keyLength;
+      valueLength = length x;
+      zero = v .zero;
+      keyRoom = v .keyRoom;
+      valueRoom = padded 64 x;
+    }
+
+-- the key and the value of the slot u
+abbrev pub withEntryOf : Slot → Slot → Slot
+withEntryOf u v =
+    record {
+      live = v .live;
+      red = v .red;
+      left = v .left;
+      right = v .right;
+      keyLength = u .keyLength;
+      valueLength = u .valueLength;
+      zero = v .zero;
+      keyRoom = u .keyRoom;
+      valueRoom = u .valueRoom;
+    }
+
+-- the head h
+abbrev pub withHead : Head → Slot → Slot
+withHead h v =
+    record {
+      live = h .live;
+      red = h .red;
+      left = h .left;
+      right = h .right;
+      keyLength = h .«key_length»;
+      valueLength = h .«value_length»;
+      zero = h .zero;
+      keyRoom = v .keyRoom;
+      valueRoom = v .valueRoom;
+    }
+
+unfoldable pub setRed : List ℕ → ℕ → Bool → List ℕ
+setRed s i x = setSlot s i (withRed x (slot s i))
+
+unfoldable pub setLeft : List ℕ → ℕ → ℕ → List ℕ
+setLeft s i x = setSlot s i (withLeft x (slot s i))
+
+unfoldable pub setRight : List ℕ → ℕ → ℕ → List ℕ
+setRight s i x = setSlot s i (withRight x (slot s i))
+
+unfoldable pub setValue : List ℕ → ℕ → List ℕ → List ℕ
+setValue s i x = setSlot s i (withValue x (slot s i))
+
+-- the key and the value of slot j, in slot i too
+unfoldable pub moveEntry : List ℕ → (i j : ℕ) → List ℕ
+moveEntry s i j = setSlot s i (withEntryOf (slot s j) (slot s i))
+
+-- slot i cleared: free, with this next free slot
+unfoldable pub clearSlot : List ℕ → (i next : ℕ) → List ℕ
+clearSlot s i next = setDigest (setSlot s i (freeSlot next)) i (zeros 32)
+
+-- ---- a whole store
+
+-- s with the first n slots and their digests put in place
+unfoldable pub withSlots : ℕ → (ℕ → Slot) → (ℕ → List ℕ) → List ℕ → List ℕ
+withSlots zero slots digests s = s
+withSlots (suc n) slots digests s =
+    setDigest (setSlot (withSlots n slots digests s) (suc n) (slots (suc n))) (suc n) (digests (suc n))
+
+-- the store with this header, these slots and these digests
+unfoldable pub bytesOf : Header → (capacity : ℕ) → (slots : ℕ → Slot) → (digests : ℕ → List ℕ) → List ℕ
+bytesOf h cap slots digests = setHeader (withSlots cap slots digests (zeros (storeLength cap))) h
+
+-- ---- what a change keeps
+
+-- the length, the header, and every slot and digest but of slots that P holds of; bytes stay bytes
+pub record Keeps (P : ℕ → Type 0) (s s′ : List ℕ) : Type 0 where
+  pub len : length s′ ≡ length s
+  pub head : header s′ ≡ header s
+  pub slots : (j : ℕ) → HasSlot (length s) j → (P j → ⊥) → slot s′ j ≡ slot s j
+  pub digests : (j : ℕ) → HasSlot (length s) j → (P j → ⊥) → digestOf s′ j ≡ digestOf s j
+  pub bytes : Bytes s → Bytes s′
+
+-- only slot i changed: it is now v, and its digest is d
+pub record Wrote (s s′ : List ℕ) (i : ℕ) (v : Slot) (d : List ℕ) : Type 0 where
+  pub here : slot s′ i ≡ v
+  pub digest : digestOf s′ i ≡ d
+  pub kept : Keeps (λ j. j ≡ i) s s′
+
+-- only the header changed; it is now h
+pub record Headed (s s′ : List ℕ) (h : Header) : Type 0 where
+  pub here : header s′ ≡ h
+  pub len : length s′ ≡ length s
+  pub slots : (j : ℕ) → HasSlot (length s) j → slot s′ j ≡ slot s j
+  pub digests : (j : ℕ) → HasSlot (length s) j → digestOf s′ j ≡ digestOf s j
+  pub bytes : Bytes s → Bytes s′

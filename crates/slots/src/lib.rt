@@ -1,0 +1,555 @@
+// The bytes of a store (document 01, "Store layout"): the only crate that knows where a bit lies.
+ghost use mathlib.Core.Path.{_≡_};
+ghost use Prim.Native.Nat.{ℕ, _+_, _≤_, _<_};
+ghost use lib.ListN.{length, take};
+ghost use lib.Seq.{sets};
+ghost use mathlib.Core.Bool.{true};
+ghost use Rattle.slots.specs.Bits.{octets, fields, bit};
+ghost use Rattle.slots.specs.Layout.{HasSlot, headAt, keyAt, valueAt, digestAt, part, numberAt, header, HeaderFits, slot, digestOf, keyOf, valueOf, zeros, padded, nodeSlot, IsEntry, IsFree, headOf, HeadFits, CopiesWithin, Decides};
+ghost use Rattle.slots.specs.Setters.{setHeader, setSlot, setDigest, setLive, setRoot, setFree, withHead, setRed, setLeft, setRight, setValue, moveEntry, clearSlot};
+
+// The header's fields.
+pub struct Header {
+    pub edition: usize,
+    pub capacity: usize,
+    pub live: usize,
+    pub root: usize,
+    pub free: usize,
+    pub zero: usize,
+}
+
+// The head of a slot.
+pub struct Head {
+    pub live: bool,
+    pub red: bool,
+    pub left: usize,
+    pub right: usize,
+    pub key_length: usize,
+    pub value_length: usize,
+    pub zero: usize,
+}
+
+// ---- where the parts of slot `i` lie in a store of `n` bytes
+
+fn head_at(n: usize, i: usize) -> usize
+    requires { ⌜ HasSlot n i ⌝ }
+    ensures { λ r. ⌜ (r ≡ headAt n i) × (r + 6 ≤ n) ⌝ }
+{
+    8 + 150 * (i - 1)
+}
+
+pub fn key_at(n: usize, i: usize) -> usize
+    requires { ⌜ HasSlot n i ⌝ }
+    ensures { λ r. ⌜ (r ≡ keyAt n i) × (r + 48 ≤ n) ⌝ }
+{
+    8 + 150 * (i - 1) + 6
+}
+
+pub fn value_at(n: usize, i: usize) -> usize
+    requires { ⌜ HasSlot n i ⌝ }
+    ensures { λ r. ⌜ (r ≡ valueAt n i) × (r + 64 ≤ n) ⌝ }
+{
+    8 + 150 * (i - 1) + 54
+}
+
+fn digest_at(n: usize, i: usize) -> usize
+    requires { ⌜ HasSlot n i ⌝ }
+    ensures { λ r. ⌜ (r ≡ digestAt n i) × (r + 32 ≤ n) ⌝ }
+{
+    8 + 150 * (i - 1) + 118
+}
+
+// ---- numbers in bytes, most significant first
+
+fn wide(x: u8) -> u64
+    ensures { λ r. ⌜ (r ≡ x) × (r < 256) ⌝ }
+{
+    x as u64
+}
+
+// The six bytes from `a` on.
+fn six(s: &[u8], a: usize) -> u64
+    requires { ⌜ a + 6 ≤ length (now s) ⌝ }
+    ensures { λ r. ⌜ r ≡ numberAt 6 (now (s .entry)) a ⌝ }
+{
+    wide(s[a]) * 1099511627776
+        + wide(s[a + 1]) * 4294967296
+        + wide(s[a + 2]) * 16777216
+        + wide(s[a + 3]) * 65536
+        + wide(s[a + 4]) * 256
+        + wide(s[a + 5])
+}
+
+fn put_six(s: &mut [u8], a: usize, h: u64)
+    requires { ⌜ a + 6 ≤ length (now s) ⌝ }
+    ensures { λ _. ⌜ now (s .exit) ≡ sets (now (s .entry)) a (fields (octets 6) h) ⌝ }
+{
+    s[a] = (h / 1099511627776 % 256) as u8;
+    s[a + 1] = (h / 4294967296 % 256) as u8;
+    s[a + 2] = (h / 16777216 % 256) as u8;
+    s[a + 3] = (h / 65536 % 256) as u8;
+    s[a + 4] = (h / 256 % 256) as u8;
+    s[a + 5] = (h % 256) as u8;
+}
+
+// The first eight bytes.
+fn eight(s: &[u8]) -> u64
+    requires { ⌜ 8 ≤ length (now s) ⌝ }
+    ensures { λ r. ⌜ r ≡ numberAt 8 (now (s .entry)) 0 ⌝ }
+{
+    wide(s[0]) * 72057594037927936
+        + wide(s[1]) * 281474976710656
+        + wide(s[2]) * 1099511627776
+        + wide(s[3]) * 4294967296
+        + wide(s[4]) * 16777216
+        + wide(s[5]) * 65536
+        + wide(s[6]) * 256
+        + wide(s[7])
+}
+
+fn put_eight(s: &mut [u8], h: u64)
+    requires { ⌜ 8 ≤ length (now s) ⌝ }
+    ensures { λ _. ⌜ now (s .exit) ≡ sets (now (s .entry)) 0 (fields (octets 8) h) ⌝ }
+{
+    s[0] = (h / 72057594037927936 % 256) as u8;
+    s[1] = (h / 281474976710656 % 256) as u8;
+    s[2] = (h / 1099511627776 % 256) as u8;
+    s[3] = (h / 4294967296 % 256) as u8;
+    s[4] = (h / 16777216 % 256) as u8;
+    s[5] = (h / 65536 % 256) as u8;
+    s[6] = (h / 256 % 256) as u8;
+    s[7] = (h % 256) as u8;
+}
+
+// ---- the header
+
+pub fn header_of(s: &[u8]) -> Header
+    requires { ⌜ 8 ≤ length (now s) ⌝ }
+    ensures { λ r. ⌜ r ≡ header (now (s .entry)) ⌝ }
+{
+    let h = eight(s);
+    Header {
+        edition: (h / 1152921504606846976 % 16) as usize,
+        capacity: (h / 562949953421312 % 2048) as usize,
+        live: (h / 274877906944 % 2048) as usize,
+        root: (h / 134217728 % 2048) as usize,
+        free: (h / 65536 % 2048) as usize,
+        zero: (h % 65536) as usize,
+    }
+}
+
+pub fn set_header(s: &mut [u8], h: Header)
+    requires { ⌜ 8 ≤ length (now s) ⌝ }
+    requires { ⌜ HeaderFits h ⌝ }
+    ensures { λ _. ⌜ now (s .exit) ≡ setHeader (now (s .entry)) h ⌝ }
+{
+    put_eight(
+        s,
+        h.edition as u64 * 1152921504606846976
+            + h.capacity as u64 * 562949953421312
+            + h.live as u64 * 274877906944
+            + h.root as u64 * 134217728
+            + h.free as u64 * 65536
+            + h.zero as u64,
+    );
+}
+
+pub fn set_live(s: &mut [u8], x: usize)
+    requires { ⌜ 8 ≤ length (now s) ⌝ }
+    requires { ⌜ x < 2048 ⌝ }
+    ensures { λ _. ⌜ now (s .exit) ≡ setLive (now (s .entry)) x ⌝ }
+{
+    let mut h = header_of(s);
+    h.live = x;
+    set_header(s, h);
+}
+
+pub fn set_root(s: &mut [u8], x: usize)
+    requires { ⌜ 8 ≤ length (now s) ⌝ }
+    requires { ⌜ x < 2048 ⌝ }
+    ensures { λ _. ⌜ now (s .exit) ≡ setRoot (now (s .entry)) x ⌝ }
+{
+    let mut h = header_of(s);
+    h.root = x;
+    set_header(s, h);
+}
+
+pub fn set_free(s: &mut [u8], x: usize)
+    requires { ⌜ 8 ≤ length (now s) ⌝ }
+    requires { ⌜ x < 2048 ⌝ }
+    ensures { λ _. ⌜ now (s .exit) ≡ setFree (now (s .entry)) x ⌝ }
+{
+    let mut h = header_of(s);
+    h.free = x;
+    set_header(s, h);
+}
+
+// ---- heads
+
+pub fn head_of(s: &[u8], i: usize) -> Head
+    requires { ⌜ HasSlot (length (now s)) i ⌝ }
+    ensures { λ r. ⌜ r ≡ headOf (slot (now (s .entry)) i) ⌝ }
+{
+    let a = head_at(s.len(), i);
+    let h = six(s, a);
+    Head {
+        live: h / 140737488355328 % 2 == 1,
+        red: h / 70368744177664 % 2 == 1,
+        left: (h / 34359738368 % 2048) as usize,
+        right: (h / 16777216 % 2048) as usize,
+        key_length: (h / 262144 % 64) as usize,
+        value_length: (h / 2048 % 128) as usize,
+        zero: (h % 2048) as usize,
+    }
+}
+
+fn bit_of(b: bool) -> u64
+    ensures { λ r. ⌜ (r ≡ bit b) × (r < 2) ⌝ }
+{
+    if b { 1 } else { 0 }
+}
+
+// The head of slot `i` anew; its key, value and digest stay.
+fn set_head(s: &mut [u8], i: usize, h: Head)
+    requires { ⌜ HasSlot (length (now s)) i ⌝ }
+    requires { ⌜ HeadFits h ⌝ }
+    ensures { λ _. ⌜ now (s .exit) ≡ setSlot (now (s .entry)) i (withHead h (slot (now (s .entry)) i)) ⌝ }
+{
+    let a = head_at(s.len(), i);
+    put_six(
+        s,
+        a,
+        bit_of(h.live) * 140737488355328
+            + bit_of(h.red) * 70368744177664
+            + h.left as u64 * 34359738368
+            + h.right as u64 * 16777216
+            + h.key_length as u64 * 262144
+            + h.value_length as u64 * 2048
+            + h.zero as u64,
+    );
+}
+
+pub fn set_red(s: &mut [u8], i: usize, x: bool)
+    requires { ⌜ HasSlot (length (now s)) i ⌝ }
+    ensures { λ _. ⌜ now (s .exit) ≡ setRed (now (s .entry)) i x ⌝ }
+{
+    let mut h = head_of(s, i);
+    h.red = x;
+    set_head(s, i, h);
+}
+
+pub fn set_left(s: &mut [u8], i: usize, x: usize)
+    requires { ⌜ HasSlot (length (now s)) i ⌝ }
+    requires { ⌜ x < 2048 ⌝ }
+    ensures { λ _. ⌜ now (s .exit) ≡ setLeft (now (s .entry)) i x ⌝ }
+{
+    let mut h = head_of(s, i);
+    h.left = x;
+    set_head(s, i, h);
+}
+
+pub fn set_right(s: &mut [u8], i: usize, x: usize)
+    requires { ⌜ HasSlot (length (now s)) i ⌝ }
+    requires { ⌜ x < 2048 ⌝ }
+    ensures { λ _. ⌜ now (s .exit) ≡ setRight (now (s .entry)) i x ⌝ }
+{
+    let mut h = head_of(s, i);
+    h.right = x;
+    set_head(s, i, h);
+}
+
+pub fn left(s: &[u8], i: usize) -> usize
+    requires { ⌜ HasSlot (length (now s)) i ⌝ }
+    ensures { λ r. ⌜ r ≡ slot (now (s .entry)) i .left ⌝ }
+{
+    head_of(s, i).left
+}
+
+pub fn right(s: &[u8], i: usize) -> usize
+    requires { ⌜ HasSlot (length (now s)) i ⌝ }
+    ensures { λ r. ⌜ r ≡ slot (now (s .entry)) i .right ⌝ }
+{
+    head_of(s, i).right
+}
+
+pub fn red(s: &[u8], i: usize) -> bool
+    requires { ⌜ HasSlot (length (now s)) i ⌝ }
+    ensures { λ r. ⌜ r ≡ slot (now (s .entry)) i .red ⌝ }
+{
+    head_of(s, i).red
+}
+
+// ---- keys, values, digests
+
+// The first `n` bytes of the key's room: the key, where `n` is its length.
+pub fn key_part(s: &[u8], i: usize, n: usize) -> &[u8]
+    requires { ⌜ HasSlot (length (now s)) i ⌝ }
+    requires { ⌜ n ≤ 48 ⌝ }
+    ensures { λ r. ⌜ now r ≡ take n (slot (now (s .entry)) i .keyRoom) ⌝ }
+{
+    let b = key_at(s.len(), i);
+    let e = b + n;
+    &s[b..e]
+}
+
+pub fn value_part(s: &[u8], i: usize, n: usize) -> &[u8]
+    requires { ⌜ HasSlot (length (now s)) i ⌝ }
+    requires { ⌜ n ≤ 64 ⌝ }
+    ensures { λ r. ⌜ now r ≡ take n (slot (now (s .entry)) i .valueRoom) ⌝ }
+{
+    let b = value_at(s.len(), i);
+    let e = b + n;
+    &s[b..e]
+}
+
+pub fn key(s: &[u8], i: usize) -> &[u8]
+    requires { ⌜ HasSlot (length (now s)) i ⌝ }
+    requires { ⌜ slot (now s) i .keyLength ≤ 48 ⌝ }
+    ensures { λ r. ⌜ now r ≡ keyOf (slot (now (s .entry)) i) ⌝ }
+{
+    let n = head_of(s, i).key_length;
+    key_part(s, i, n)
+}
+
+pub fn value(s: &[u8], i: usize) -> &[u8]
+    requires { ⌜ HasSlot (length (now s)) i ⌝ }
+    requires { ⌜ slot (now s) i .valueLength ≤ 64 ⌝ }
+    ensures { λ r. ⌜ now r ≡ valueOf (slot (now (s .entry)) i) ⌝ }
+{
+    let n = head_of(s, i).value_length;
+    value_part(s, i, n)
+}
+
+pub fn digest(s: &[u8], i: usize) -> &[u8]
+    requires { ⌜ HasSlot (length (now s)) i ⌝ }
+    ensures { λ r. ⌜ now r ≡ digestOf (now (s .entry)) i ⌝ }
+{
+    let b = digest_at(s.len(), i);
+    let e = b + 32;
+    &s[b..e]
+}
+
+pub fn set_digest(s: &mut [u8], i: usize, d: &[u8; 32])
+    requires { ⌜ HasSlot (length (now s)) i ⌝ }
+    ensures { λ _. ⌜ now (s .exit) ≡ setDigest (now (s .entry)) i (now (d .entry)) ⌝ }
+{
+    let b = digest_at(s.len(), i);
+    let e = b + 32;
+    bytes::copy(d, &mut s[b..e]);
+}
+
+// Zeroes the `n` bytes from `a` on.
+fn wipe(s: &mut [u8], a: usize, n: usize)
+    requires { ⌜ a + n ≤ length (now s) ⌝ }
+    ensures { λ _. ⌜ now (s .exit) ≡ sets (now (s .entry)) a (zeros n) ⌝ }
+{
+    let mut i = 0;
+    while i < n {
+        s[a + i] = 0;
+        i += 1;
+    }
+}
+
+// Writes `x` and then zeros into the `n` bytes from `a` on.
+fn put_padded(s: &mut [u8], a: usize, n: usize, x: &[u8])
+    requires { ⌜ (a + n ≤ length (now s)) × (length (now x) ≤ n) ⌝ }
+    ensures { λ _. ⌜ now (s .exit) ≡ sets (now (s .entry)) a (padded n (now (x .entry))) ⌝ }
+{
+    let e = a + x.len();
+    bytes::copy(x, &mut s[a..e]);
+    wipe(s, e, n - x.len());
+}
+
+// Copies `n` bytes from `b` on to `a`; the two do not meet.
+fn copy_within(s: &mut [u8], a: usize, b: usize, n: usize)
+    requires { ⌜ CopiesWithin (length (now s)) a b n ⌝ }
+    ensures { λ _. ⌜ now (s .exit) ≡ sets (now (s .entry)) a (part b n (now (s .entry))) ⌝ }
+{
+    let mut i = 0;
+    while i < n {
+        let x = s[b + i];
+        s[a + i] = x;
+        i += 1;
+    }
+}
+
+// A new entry in slot `i`: red, with no children.
+pub fn put_entry(s: &mut [u8], i: usize, key: &[u8], value: &[u8])
+    requires { ⌜ HasSlot (length (now s)) i ⌝ }
+    requires { ⌜ (length (now key) ≤ 48) × (length (now value) ≤ 64) ⌝ }
+    ensures { λ _. ⌜ now (s .exit) ≡ setSlot (now (s .entry)) i (nodeSlot true (now (key .entry)) (now (value .entry)) 0 0) ⌝ }
+{
+    set_head(
+        s,
+        i,
+        Head {
+            live: true,
+            red: true,
+            left: 0,
+            right: 0,
+            key_length: key.len(),
+            value_length: value.len(),
+            zero: 0,
+        },
+    );
+    let k = key_at(s.len(), i);
+    put_padded(s, k, 48, key);
+    let v = value_at(s.len(), i);
+    put_padded(s, v, 64, value);
+}
+
+pub fn set_value(s: &mut [u8], i: usize, value: &[u8])
+    requires { ⌜ HasSlot (length (now s)) i ⌝ }
+    requires { ⌜ length (now value) ≤ 64 ⌝ }
+    ensures { λ _. ⌜ now (s .exit) ≡ setValue (now (s .entry)) i (now (value .entry)) ⌝ }
+{
+    let mut h = head_of(s, i);
+    h.value_length = value.len();
+    set_head(s, i, h);
+    let v = value_at(s.len(), i);
+    put_padded(s, v, 64, value);
+}
+
+// The key and the value of slot `j`, in slot `i` too.
+pub fn move_entry(s: &mut [u8], i: usize, j: usize)
+    requires { ⌜ HasSlot (length (now s)) i ⌝ }
+    requires { ⌜ HasSlot (length (now s)) j ⌝ }
+    requires { ⌜ (i ≡ j → ⊥) ⌝ }
+    ensures { λ _. ⌜ now (s .exit) ≡ moveEntry (now (s .entry)) i j ⌝ }
+{
+    let g = head_of(s, j);
+    let mut h = head_of(s, i);
+    h.key_length = g.key_length;
+    h.value_length = g.value_length;
+    set_head(s, i, h);
+    let k = key_at(s.len(), i);
+    let l = key_at(s.len(), j);
+    copy_within(s, k, l, 48);
+    let v = value_at(s.len(), i);
+    let w = value_at(s.len(), j);
+    copy_within(s, v, w, 64);
+}
+
+// Frees slot `i`: all zero but for `left`, the next free slot.
+pub fn clear_slot(s: &mut [u8], i: usize, next: usize)
+    requires { ⌜ HasSlot (length (now s)) i ⌝ }
+    requires { ⌜ next < 2048 ⌝ }
+    ensures { λ _. ⌜ now (s .exit) ≡ clearSlot (now (s .entry)) i next ⌝ }
+{
+    set_head(
+        s,
+        i,
+        Head {
+            live: false,
+            red: false,
+            left: next,
+            right: 0,
+            key_length: 0,
+            value_length: 0,
+            zero: 0,
+        },
+    );
+    let k = key_at(s.len(), i);
+    wipe(s, k, 48);
+    let v = value_at(s.len(), i);
+    wipe(s, v, 64);
+    let d = digest_at(s.len(), i);
+    wipe(s, d, 32);
+}
+
+// ---- tests
+
+// Whether the `n` bytes from `a` on are zero: by their sum, in one pass with no branch.
+fn is_zero(s: &[u8], a: usize, n: usize) -> bool
+    requires { ⌜ (a + n ≤ length (now s)) × (n ≤ 64) ⌝ }
+    ensures { λ r. ⌜ Decides r (part a n (now (s .entry)) ≡ zeros n) ⌝ }
+{
+    let mut sum: u64 = 0;
+    let mut i = 0;
+    while i < n {
+        sum += wide(s[a + i]);
+        i += 1;
+    }
+    sum == 0
+}
+
+// Whether the key's room is `n` bytes of key and then zeros.
+fn key_padded(s: &[u8], i: usize, n: usize) -> bool
+    requires { ⌜ HasSlot (length (now s)) i ⌝ }
+    requires { ⌜ n ≤ 48 ⌝ }
+    ensures { λ r. ⌜ Decides r (slot (now (s .entry)) i .keyRoom ≡ padded 48 (take n (slot (now (s .entry)) i .keyRoom))) ⌝ }
+{
+    let k = key_at(s.len(), i);
+    is_zero(s, k + n, 48 - n)
+}
+
+fn value_padded(s: &[u8], i: usize, n: usize) -> bool
+    requires { ⌜ HasSlot (length (now s)) i ⌝ }
+    requires { ⌜ n ≤ 64 ⌝ }
+    ensures { λ r. ⌜ Decides r (slot (now (s .entry)) i .valueRoom ≡ padded 64 (take n (slot (now (s .entry)) i .valueRoom))) ⌝ }
+{
+    let v = value_at(s.len(), i);
+    is_zero(s, v + n, 64 - n)
+}
+
+// Whether slot `i`, whose head is `h`, is laid out as an entry's.
+pub fn is_entry(s: &[u8], i: usize, h: Head) -> bool
+    requires { ⌜ HasSlot (length (now s)) i ⌝ }
+    requires { ⌜ h ≡ headOf (slot (now s) i) ⌝ }
+    ensures { λ r. ⌜ Decides r (IsEntry (now (s .entry)) i) ⌝ }
+{
+    if !h.live {
+        return false;
+    }
+    if h.zero != 0 {
+        return false;
+    }
+    let k = h.key_length;
+    if k > 48 {
+        return false;
+    }
+    let v = h.value_length;
+    if v > 64 {
+        return false;
+    }
+    if !key_padded(s, i, k) {
+        return false;
+    }
+    value_padded(s, i, v)
+}
+
+// Whether slot `i` is laid out as a free slot.
+pub fn is_free(s: &[u8], i: usize) -> bool
+    requires { ⌜ HasSlot (length (now s)) i ⌝ }
+    ensures { λ r. ⌜ Decides r (IsFree (now (s .entry)) i) ⌝ }
+{
+    let h = head_of(s, i);
+    if h.live {
+        return false;
+    }
+    if h.red {
+        return false;
+    }
+    if h.right != 0 {
+        return false;
+    }
+    if h.key_length != 0 {
+        return false;
+    }
+    if h.value_length != 0 {
+        return false;
+    }
+    if h.zero != 0 {
+        return false;
+    }
+    let k = key_at(s.len(), i);
+    if !is_zero(s, k, 48) {
+        return false;
+    }
+    let v = value_at(s.len(), i);
+    if !is_zero(s, v, 64) {
+        return false;
+    }
+    let d = digest_at(s.len(), i);
+    is_zero(s, d, 32)
+}

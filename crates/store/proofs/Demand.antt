@@ -1,0 +1,159 @@
+-- DEMAND 3, proved of every history from a fresh store of any capacity.
+-- Assumes nothing.
+use mathlib.Core.Path.{_≡_, refl, sym, ap, subst, _∙_}
+use mathlib.Core.Bool.{Bool, true, false, cond, _||_}
+use mathlib.Core.List.{List, [], _∷_}
+use mathlib.Core.Option.{Option, none, some, Option·map}
+use Prim.Native.Nat.{ℕ, zero, suc, _+_, _≤_}
+use native.Mathlib.Omega.{arith}
+use lib.ListN.{length, take}
+use borrow.Author.Tests.{le-ltb}
+use Rattle.key_order.specs.declared.Ordering.{Ordering}
+use Rattle.key_order.specs.declared.Ordering.the-variants.{Less, Equal, Greater}
+use Rattle.key_order.specs.Order.{Key, cmp, pick}
+use Rattle.key_order.proofs.Laws.{gt-lt}
+use Rattle.slots.specs.declared.Header.{Header}
+use Rattle.slots.specs.Layout.{header}
+use Rattle.hash_tree.specs.HashTree.{HashTree}
+use Rattle.hash_tree.specs.Written.{write}
+use Rattle.hash_tree.specs.Whole as whole
+use Rattle.llrb.specs.Tree.{Value, Entry, Tree, nil, entries, size, get}
+use Rattle.llrb.specs.Map.{Pair, pairs, find, put, change, drop}
+use Rattle.llrb.specs.Digests.{rootHash}
+use Rattle.llrb.proofs.History.{insert-pairs, modify-pairs, delete-pairs}
+use Rattle.llrb.proofs.Maps.{value-find}
+use Rattle.witness_trees.specs.Reading.{labels, leaves}
+use Rattle.witness_trees.specs.Witness.{keyRange, keysOnly}
+use Rattle.witness_trees.specs.Rules.{Le, keysOf, rangeRule}
+use Rattle.witness_trees.proofs.Calls.{key-range-is}
+use Rattle.witness_trees.proofs.Laws.{key-range-witness, key-range-leaves}
+use Rattle.store.specs.Numbers.{Refusal, NotSound, LongKey, Reversed, Outcome, refused, done}
+use Rattle.store.specs.Model.{Model, valueIn, head, fresh, inserted, modified, deleted}
+use Rattle.store.specs.Sound.{Digests, Lawful, Represents}
+use Rattle.store.specs.Decode.{decode}
+use Rattle.store.specs.Answers.{Digested, digested}
+use Rattle.store.specs.Calls.{refuse, longKey, reversed, ofRange, witnessed, getAnswer, rootHashAnswer, keyRangeAnswer}
+use Rattle.store.specs.History.{Edit, Insert, Modify, Delete, storeAfter, accepted, lastValue, mapAfter, newKeys, deletes, modelAfter}
+use Rattle.store.specs.Demand.{Lies, KeyRangeShown, Demand3}
+use Rattle.store.proofs.Decoding.{decoded, live-and-free, on-sound}
+use Rattle.store.proofs.Operating.{tree-lawful}
+use Rattle.store.proofs.Calling.{Done, newly, again, changes, goes}
+use Rattle.store.proofs.Running.{model-lawful, store-holds, Step, stays, moves, step}
+use Rattle.store.proofs.Histories.{map-after, live-after}
+use Rattle.store.proofs.Replacing.{insert-replaces, modify-replaces}
+use Rattle.store.proofs.Reading.{get-lies, get-absent}
+use Rattle.store.proofs.Witnessing.{shown-rebuilds, Fills, fills}
+
+-- ---- the map as a list
+
+done-pairs : {d : Edit} {m n : Model} (h : List Edit) → Lawful m → Done d m n → pairs (entries (m .tree)) ≡ mapAfter h → pairs (entries (n .tree)) ≡ mapAfter (d ∷ h)
+unfolding mapAfter inserted modified deleted
+done-pairs {m = m} h g (newly {k = k} {v = v} p q e f) i = insert-pairs (record { slot = head (m .free); key = k; value = v }) (tree-lawful g) ∙ ap (put k v) i
+done-pairs {m = m} h g (again {k = k} {v = v} p q e) i = insert-pairs (record { slot = head (m .free); key = k; value = v }) (tree-lawful g) ∙ ap (put k v) i
+done-pairs h g (changes {k = k} {v = v} p q e) i = modify-pairs k v (tree-lawful g) ∙ ap (change k v) i
+done-pairs h g (goes {k = k} p e) i = delete-pairs k (tree-lawful g) ∙ ap (drop k) i
+
+-- no edit changes the capacity
+done-capacity : {d : Edit} {m n : Model} → Done d m n → n .capacity ≡ m .capacity
+unfolding inserted modified deleted
+done-capacity (newly p q e f) = refl
+done-capacity (again p q e) = refl
+done-capacity (changes p q e) = refl
+done-capacity (goes p e) = refl
+
+-- ---- a key range
+
+-- the root digest that is answered
+root-hash : {s : List ℕ} {m : Model} → Represents s m → rootHashAnswer s .digest ≡ rootHash (m .tree)
+unfolding rootHashAnswer
+root-hash a = ap (λ (o : Outcome (List ℕ)). digested o .digest) (on-sound a (λ m. done (rootHash (m .tree))) (refused NotSound))
+
+not-reversed : (first last : Key) → Le first last → reversed first last ≡ false
+not-reversed first last o = at (cmp first last) refl
+  where
+    at : (c : Ordering) → cmp first last ≡ c → pick c false false true ≡ false
+    at Less e = refl
+    at Equal e = refl
+    at Greater e = absurd (o (gt-lt first last e))
+
+module _ {s : List ℕ} {m : Model} (a : Represents s m) (first last : Key) (out : List ℕ) (p : length first ≤ 48) (q : length last ≤ 48) (o : Le first last) where
+  asked : ofRange keyRange first last m ≡ done (keyRange first last (m .tree))
+  unfolding ofRange
+  asked = rw (le-ltb 48 (length first) p, le-ltb 48 (length last) q, not-reversed first last o)
+
+  pub key-range-shown : length (write (keyRange first last (m .tree))) ≤ length out → KeyRangeShown s out (pairs (entries (m .tree))) first last (keyRangeAnswer first last s out)
+  unfolding keyRangeAnswer
+  key-range-shown r =
+      let t = m .tree in
+      let f = fills (ofRange keyRange first last) (keyRange first last t) out a asked r in
+      let w = key-range-witness first last t (a .lawful .ordered) o in
+      record {
+        number = f .number;
+        rebuilds = rw (f .bytes, key-range-is first last t (a .lawful .ordered) o, root-hash a) (shown-rebuilds (rangeRule first last (keysOf (entries t)) keysOnly) (a .lawful));
+        tree = keyRange first last t;
+        bytes = f .bytes;
+        labelled = w .labelled;
+        valued = key-range-leaves first last t (a .lawful .ordered) o;
+        rest = f .rest;
+      }
+
+-- ---- any history
+
+module _ (capacity : ℕ) (low : 1 ≤ capacity) (high : capacity ≤ 1024) where
+  pairs-start : pairs (entries (modelAfter capacity [] .tree)) ≡ mapAfter (accepted capacity [])
+  unfolding modelAfter accepted fresh mapAfter
+  pairs-start = refl
+
+  pub pairs-after : (h : List Edit) → pairs (entries (modelAfter capacity h .tree)) ≡ mapAfter (accepted capacity h)
+  pairs-after [] = pairs-start
+  pairs-after (d ∷ h) = at (step capacity low high d h) (pairs-after h)
+    where
+      at : Step capacity low high d h → pairs (entries (modelAfter capacity h .tree)) ≡ mapAfter (accepted capacity h)
+          → pairs (entries (modelAfter capacity (d ∷ h) .tree)) ≡ mapAfter (accepted capacity (d ∷ h))
+      at (stays e f) i = rw (e, f) i
+      at (moves c f) i = rw f (done-pairs (accepted capacity h) (model-lawful capacity low high h) c i)
+
+  capacity-start : modelAfter capacity [] .capacity ≡ capacity
+  unfolding modelAfter fresh
+  capacity-start = refl
+
+  capacity-after : (h : List Edit) → modelAfter capacity h .capacity ≡ capacity
+  capacity-after [] = capacity-start
+  capacity-after (d ∷ h) = at (step capacity low high d h) (capacity-after h)
+    where
+      at : Step capacity low high d h → modelAfter capacity h .capacity ≡ capacity → modelAfter capacity (d ∷ h) .capacity ≡ capacity
+      at (stays e f) i = rw e i
+      at (moves c f) i = done-capacity c ∙ i
+
+  -- a key with a last value is present
+  present : (h : List Edit) (key : Key) (old : Value) → lastValue key (accepted capacity h) ≡ some old → (e : Entry) × (get key (modelAfter capacity h .tree) ≡ some e) × (e .value ≡ old)
+  present h key old l = at (get key (modelAfter capacity h .tree)) refl (map-after capacity low high h key ∙ l)
+    where
+      at : (g : Option Entry) → get key (modelAfter capacity h .tree) ≡ g → Option·map (λ (e : Entry). e .value) g ≡ some old → (e : Entry) × (get key (modelAfter capacity h .tree) ≡ some e) × (e .value ≡ old)
+      at none e i = absurd (let z : _≡_ {A = ℕ} 0 1 = cc in omega arith)
+      at (some x) e i = (x, e, cc)
+
+  no-entry : (o : Option Entry) → Option·map (λ (e : Entry). e .value) o ≡ none → o ≡ none
+  no-entry none i = refl
+  no-entry (some x) i = cc
+
+  pub demand-3 : (h : List Edit) → Demand3 capacity (storeAfter capacity h) (accepted capacity h)
+  demand-3 h =
+      let a = store-holds capacity low high h in
+      let g = model-lawful capacity low high h in
+      let d = decoded a in
+      let n : header (storeAfter capacity h) .live ≡ size (modelAfter capacity h .tree) = ap (λ (x : Header). x .live) (a .laid .header) in
+      record {
+        sound = (modelAfter capacity h, a);
+        digests = rw d (a .laid .digests);
+        map = rw d (pairs-after h);
+        last = λ key. ap (find key) (sym (pairs-after h)) ∙ sym (value-find key (tree-lawful g)) ∙ map-after capacity low high h key;
+        found = λ key value l. let e = present h key value l in subst (λ (v : Value). Lies (storeAfter capacity h) key v (getAnswer key (storeAfter capacity h))) (e .2) (get-lies a key (e .0) (e .1));
+        missing = λ key p l. get-absent a key p (no-entry (get key (modelAfter capacity h .tree)) (map-after capacity low high h key ∙ l));
+        live = rw n (live-after capacity low high h);
+        free = rw (n, d) (live-and-free g ∙ capacity-after h);
+        insert = λ key value old l v. let e = present h key old l in insert-replaces key value (e .0) g (e .1) v a;
+        modify = λ key value old l v. let e = present h key old l in modify-replaces key value (e .0) g (e .1) v a;
+        keyRange = λ first last out p q o r.
+            rw (← pairs-after h) (key-range-shown a first last out p q o (rw d at r));
+      }

@@ -1,0 +1,141 @@
+-- The bytes of a lawful model hold it, and a store that holds a model is the model's bytes: encode and decode are each other's inverse.
+-- Assumes nothing.
+use mathlib.Core.Path.{_≡_, refl, sym, ap, subst, _∙_}
+use mathlib.Core.Bool.{Bool, true, false, cond}
+use mathlib.Core.List.{List, [], _∷_, _++_}
+use mathlib.Core.Option.{Option, none, some}
+use Prim.Native.Nat.{ℕ, zero, suc, _+_, _≤_, _<_}
+use native.Mathlib.Omega.{arith}
+use lib.Dec.{eqb, lit<}
+use lib.ListN.{length, length-append}
+use Rattle.slots.specs.Bits.{Bytes}
+use Rattle.slots.specs.Layout.{storeLength, HeaderFits, header, Slot, SlotFits, slot, digestOf, freeSlot, zeros}
+use Rattle.slots.specs.Setters.{bytesOf}
+use Rattle.slots.proofs.Writing.{length-zeros, node-fits, free-fits}
+use Rattle.slots.proofs.Whole.{length-bytesOf, header-bytesOf, slot-bytesOf, digest-bytesOf, is-bytesOf}
+use Rattle.hash_tree.specs.DigestLaws.{emptyHash-length, forkHash-length, labeledHash-length}
+use Rattle.llrb.specs.Tree.{Entry, Tree, nil, node, entries, size}
+use Rattle.llrb.specs.Digests.{dataDigest, nodeDigest, subtreeDigest}
+use Rattle.llrb.specs.Path.{Sub, whole, on-left, on-right, subtreeAt}
+use Rattle.store.specs.Counts.{is, occurs}
+use Rattle.store.specs.Counting.{is-self}
+use Rattle.store.specs.Model.{Model, slotsOf, root, head}
+use Rattle.store.specs.Sound.{headerOf, Short, Laid, Lawful, Represents, Sound}
+use Rattle.store.specs.Encode.{inChain, topSlot, topDigest, slotAt, digestAt, encode}
+use Rattle.store.specs.Decode.{decode}
+use Rattle.store.proofs.Trees.{slots-node}
+use Rattle.store.proofs.Decoding.{live-and-free, decoded, sound-decodes}
+use Rattle.store.proofs.Seats.{sub-left, sub-right, sub-occurs, top-occurs, Seat, missing, seated, seat, Shows, laid-shows, shows-laid, tree-within, chain-within}
+
+-- ---- all fits its field
+
+pub subtree-digest-length : (t : Tree) → length (subtreeDigest t) ≡ 32
+unfolding subtreeDigest
+subtree-digest-length nil = emptyHash-length
+subtree-digest-length (node c e nil nil) = labeledHash-length (e .key) _
+subtree-digest-length (node c e (node d x m n) nil) = forkHash-length _ _
+subtree-digest-length (node c e nil (node d x m n)) = forkHash-length _ _
+subtree-digest-length (node c e (node b y o p) (node d x m n)) = forkHash-length _ _
+
+pub short-left : (L M : List Entry) → Short (L ++ M) → Short L
+short-left [] M a = tt
+short-left (e ∷ L) M a = (a .0, a .1, short-left L M (a .2))
+
+pub short-right : (L M : List Entry) → Short (L ++ M) → Short M
+short-right [] M a = a
+short-right (e ∷ L) M a = short-right L M (a .2)
+
+-- the entries of a subtree are short too
+pub sub-short : {u t : Tree} → Sub u t → Short (entries t) → Short (entries u)
+sub-short whole a = a
+sub-short (on-left {e = e} {l = l} {r = r} p) a = sub-short p (short-left (entries l) (e ∷ entries r) a)
+sub-short (on-right {e = e} {l = l} {r = r} p) a = sub-short p (short-right (entries l) (e ∷ entries r) a .2)
+
+module _ {m : Model} (g : Lawful m) where
+  few : m .capacity < 2048
+  few = omega (arith, g .most)
+
+  root-small : (t : Tree) → Sub t (m .tree) → root t < 2048
+  root-small nil u = lit< tt
+  root-small (node c e l r) u = let w = tree-within g (e .slot) (omega (arith, sub-occurs (e .slot) u, top-occurs c e l r)) in omega (arith, w, g .most)
+
+  head-small : (f : List ℕ) → ((x : ℕ) → occurs x f ≤ occurs x (m .free)) → head f < 2048
+  head-small [] o = lit< tt
+  head-small (x ∷ f) o = let w = chain-within g x (omega (arith, o x, is-self x)) in omega (arith, w, g .most)
+
+  header-fits : HeaderFits (headerOf m)
+  header-fits =
+      record {
+        edition = lit< tt;
+        capacity = few;
+        live = omega (arith, live-and-free g, g .most);
+        root = root-small (m .tree) whole;
+        free = head-small (m .free) (λ x. omega arith);
+        zero = lit< tt;
+      }
+
+  chain-fits : (x : ℕ) (f : List ℕ) → ((y : ℕ) → occurs y f ≤ occurs y (m .free)) → SlotFits (inChain x f)
+  chain-fits x [] o = free-fits 0 (lit< tt)
+  chain-fits x (y ∷ f) o = go (eqb x y) (chain-fits x f (λ z. omega (arith, o z)))
+    where
+      go : (b : Bool) → SlotFits (inChain x f) → SlotFits (cond b (freeSlot (head f)) (inChain x f))
+      go true i = free-fits (head f) (head-small f (λ z. omega (arith, o z)))
+      go false i = i
+
+  slot-fits : (x : ℕ) → SlotFits (slotAt m x)
+  slot-fits x = at (seat x (m .tree))
+    where
+      at : Seat x (m .tree) → SlotFits (slotAt m x)
+      at (missing z h) = rw h (chain-fits x (m .free) (λ y. omega arith))
+      at (seated c e l r h k u) =
+          let a = short-right (entries l) (e ∷ entries r) (sub-short u (g .short)) in
+          rw h (node-fits c (e .key) (e .value) (root l) (root r) (a .0) (a .1) (root-small l (sub-left u)) (root-small r (sub-right u)))
+
+  digest-fits : (x : ℕ) → length (digestAt m x) ≡ 32
+  digest-fits x = at (seat x (m .tree))
+    where
+      at : Seat x (m .tree) → length (digestAt m x) ≡ 32
+      at (missing z h) = rw h (length-zeros 32)
+      at (seated c e l r h k u) = rw h (subtree-digest-length (node c e l r))
+
+  -- ---- every lawful model has a store
+
+  pub encode-shows : Shows (encode m) m
+  unfolding encode
+  encode-shows =
+      record {
+        len = length-bytesOf (headerOf m) (m .capacity) (slotAt m) (digestAt m);
+        head = header-bytesOf (headerOf m) (m .capacity) (slotAt m) (digestAt m) header-fits;
+        slots = slot-bytesOf (headerOf m) (m .capacity) (slotAt m) (digestAt m) few (λ x p q. slot-fits x) (λ x p q. digest-fits x);
+        digests = digest-bytesOf (headerOf m) (m .capacity) (slotAt m) (digestAt m) few (λ x p q. slot-fits x) (λ x p q. digest-fits x);
+      }
+
+  pub encode-holds : Represents (encode m) m
+  encode-holds = record { laid = shows-laid g encode-shows; lawful = g }
+
+  pub encode-sound : Sound (encode m)
+  encode-sound = (m, encode-holds)
+
+  pub decode-encode : decode (encode m) ≡ m
+  decode-encode = decoded encode-holds
+
+-- ---- and one only
+
+pub encoded : {s : List ℕ} {m : Model} → Bytes s → Represents s m → s ≡ encode m
+unfolding encode
+encoded {s} {m} b a =
+    let w = laid-shows (a .lawful) (a .laid) in
+    is-bytesOf (m .capacity) s (few (a .lawful)) b (w .len) (headerOf m) (slotAt m) (digestAt m) (w .head) (w .slots) (w .digests)
+
+pub bytes-same : {s t : List ℕ} {m : Model} → Bytes s → Bytes t → Represents s m → Represents t m → s ≡ t
+bytes-same bs bt a b = encoded bs a ∙ sym (encoded bt b)
+
+pub encode-decode : {s : List ℕ} → Bytes s → Sound s → encode (decode s) ≡ s
+encode-decode b h = sym (encoded b (sound-decodes h))
+
+-- a store is sound exactly when it is the bytes of a lawful model
+pub sound-is : {s : List ℕ} → Bytes s → Sound s → (m : Model) × Lawful m × (s ≡ encode m)
+sound-is b h = (h .0, h .1 .lawful, encoded b (h .1))
+
+pub is-sound : {s : List ℕ} (m : Model) → Lawful m → s ≡ encode m → Sound s
+is-sound m g e = subst Sound (sym e) (encode-sound g)

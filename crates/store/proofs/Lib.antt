@@ -1,0 +1,15 @@
+-- What is proved of stores and of the calls.
+pub mod Trees
+pub mod Decoding
+pub mod Operating
+pub mod Seats
+pub mod Encoding
+pub mod Calling
+pub mod Running
+pub mod Histories
+pub mod Replacing
+pub mod Reading
+pub mod Witnessing
+pub mod Demand
+pub mod Table
+pub mod Refusing

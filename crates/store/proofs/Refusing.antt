@@ -1,0 +1,70 @@
+-- A refusal leaves all as found.
+-- Assumes nothing.
+use mathlib.Core.Path.{_≡_, refl}
+use mathlib.Core.Bool.{Bool, false, not, _||_}
+use mathlib.Core.Logic.{_≢_}
+use mathlib.Core.List.{List}
+use Prim.Native.Nat.{ℕ}
+use lib.Dec.{ltb, eqb}
+use lib.ListN.{length}
+use Rattle.slots.specs.Layout.{storeLength, zeros}
+use Rattle.hash_tree.specs.HashTree.{HashTree}
+use Rattle.llrb.specs.Tree.{Entry, size}
+use Rattle.llrb.specs.Digests.{rootHash}
+use Rattle.witness_trees.specs.Witness.{asHashTree, keys, keyRange, valueRange, keysWithPrefix, witness}
+use Rattle.store.specs.Numbers.{Refusal, NotSound, BadCapacity, Outcome, refused, done}
+use Rattle.store.specs.Model.{Model, fresh}
+use Rattle.store.specs.Decide.{onSound}
+use Rattle.store.specs.Answers.{Told, told, Counted, counted, Digested, digested, Found, found, Changed, changed, Written, written, fitting}
+use Rattle.store.specs.Calls.{refuse, getIn, firstIn, nextIn, insertIn, modifyIn, deleteIn, ofKey, ofRange, witnessed, createAnswer, isEmptyAnswer, countAnswer, rootHashAnswer, getAnswer, firstEntryAnswer, nextEntryAnswer, insertAnswer, modifyAnswer, deleteAnswer, asHashTreeAnswer, keysAnswer, witnessAnswer, keysWithPrefixAnswer, keyRangeAnswer, valueRangeAnswer}
+use Rattle.store.specs.Demand.{Kept, Unwritten, Nothing, Demand1}
+
+told-no : (o : Outcome Bool) → told o .number ≢ 0 → told o .yes ≡ false
+told-no (refused r) n = refl
+told-no (done b) n = absurd (n refl)
+
+counted-none : (o : Outcome ℕ) → counted o .number ≢ 0 → counted o .count ≡ 0
+counted-none (refused r) n = refl
+counted-none (done b) n = absurd (n refl)
+
+digested-none : (o : Outcome (List ℕ)) → digested o .number ≢ 0 → digested o .digest ≡ zeros 32
+digested-none (refused r) n = refl
+digested-none (done b) n = absurd (n refl)
+
+nothing : (s : List ℕ) (o : Outcome Entry) → Nothing (found s o)
+nothing s (refused r) n = refl
+nothing s (done e) n = absurd (n refl)
+
+kept : (s : List ℕ) (o : Outcome Model) → Kept s (changed s o)
+kept s (refused r) n = refl
+kept s (done m) n = absurd (n refl)
+
+unwritten : (out : List ℕ) (o : Outcome (List ℕ)) → Unwritten out (written out o)
+unwritten out (refused r) n = refl
+unwritten out (done w) n = absurd (n refl)
+
+witnessed-kept : (make : Model → Outcome HashTree) (s out : List ℕ) → Unwritten out (witnessed make s out)
+unfolding witnessed
+witnessed-kept make s out = unwritten out (fitting out (onSound s make (refused NotSound)))
+
+pub demand-1 : (s : List ℕ) → Demand1 s
+unfolding createAnswer isEmptyAnswer countAnswer rootHashAnswer getAnswer firstEntryAnswer nextEntryAnswer insertAnswer modifyAnswer deleteAnswer asHashTreeAnswer keysAnswer witnessAnswer keysWithPrefixAnswer keyRangeAnswer valueRangeAnswer
+demand-1 s =
+    record {
+      create = λ capacity. kept s (refuse (eqb capacity 0 || (ltb 1024 capacity || not (eqb (length s) (storeLength capacity)))) BadCapacity (done (fresh capacity)));
+      isEmpty = told-no (onSound s (λ m. done (eqb (size (m .tree)) 0)) (refused NotSound));
+      count = counted-none (onSound s (λ m. done (size (m .tree))) (refused NotSound));
+      rootHash = digested-none (onSound s (λ m. done (rootHash (m .tree))) (refused NotSound));
+      get = λ key. nothing s (onSound s (getIn key) (refused NotSound));
+      firstEntry = nothing s (onSound s firstIn (refused NotSound));
+      nextEntry = λ key. nothing s (onSound s (nextIn key) (refused NotSound));
+      insert = λ key value. kept s (onSound s (insertIn key value) (refused NotSound));
+      modify = λ key value. kept s (onSound s (modifyIn key value) (refused NotSound));
+      delete = λ key. kept s (onSound s (deleteIn key) (refused NotSound));
+      asHashTree = λ out. witnessed-kept (λ m. done (asHashTree (m .tree))) s out;
+      keys = λ out. witnessed-kept (λ m. done (keys (m .tree))) s out;
+      witness = λ key out. witnessed-kept (ofKey witness key) s out;
+      keysWithPrefix = λ prefix out. witnessed-kept (ofKey keysWithPrefix prefix) s out;
+      keyRange = λ first last out. witnessed-kept (ofRange keyRange first last) s out;
+      valueRange = λ first last out. witnessed-kept (ofRange valueRange first last) s out;
+    }

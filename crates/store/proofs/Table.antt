@@ -1,0 +1,142 @@
+-- The calls answer the numbers of document 01's table, in its order.
+-- Assumes nothing.
+use mathlib.Core.Path.{_≡_, refl, sym, ap, _∙_}
+use mathlib.Core.Bool.{Bool, true, false, cond, not, _&&_, _||_}
+use mathlib.Core.List.{List, [], _∷_}
+use mathlib.Core.Option.{Option, none, some}
+use Prim.Native.Nat.{ℕ}
+use lib.Dec.{ltb, eqb}
+use lib.ListN.{length}
+use Rattle.key_order.specs.Order.{Key}
+use Rattle.slots.specs.Layout.{storeLength}
+use Rattle.hash_tree.specs.HashTree.{HashTree}
+use Rattle.hash_tree.specs.Written.{write}
+use Rattle.llrb.specs.Tree.{Value, Entry, Tree, entries, size, get}
+use Rattle.llrb.specs.Digests.{rootHash}
+use Rattle.llrb.specs.Iterate.{headOf, firstAbove}
+use Rattle.witness_trees.specs.Witness.{asHashTree, keys, keyRange, valueRange, keysWithPrefix, witness}
+use Rattle.store.specs.Numbers.{Refusal, NotSound, LongKey, LongValue, Reversed, Full, NoRoom, Absent, BadCapacity, numberOf, Outcome, refused, done}
+use Rattle.store.specs.Model.{Model, fresh, inserted, modified, deleted}
+use Rattle.store.specs.Sound.{Represents}
+use Rattle.store.specs.Decode.{decode}
+use Rattle.store.specs.Decide.{represents?, onSound}
+use Rattle.store.specs.Answers.{Told, told, Counted, counted, Digested, digested, Found, found, Changed, changed, Written, written, fitting}
+use Rattle.store.specs.Calls.{refuse, longKey, longValue, reversed, isNone, absent, noFreeSlot, entryOr, getIn, firstIn as firstEntryIn, nextIn, insertIn, modifyIn, deleteIn, ofKey, ofRange, witnessed, createAnswer, isEmptyAnswer, countAnswer, rootHashAnswer, getAnswer, firstEntryAnswer, nextEntryAnswer, insertAnswer, modifyAnswer, deleteAnswer, asHashTreeAnswer, keysAnswer, witnessAnswer, keysWithPrefixAnswer, keyRangeAnswer, valueRangeAnswer}
+use Rattle.store.specs.Table.{Row, when, order, applies, firstOf, firstIn, notSound, shorter, Table}
+use Rattle.store.proofs.Decoding.{on-sound, on-unsound, sound-decodes}
+
+-- 1 comes first, and is given exactly for a store that is not sound
+by-soundness : {A : Type 0} (s : List ℕ) (o : Model → Outcome A) (number : Outcome A → ℕ) (rows : List Row) → number (refused NotSound) ≡ 1 → applies NotSound rows ≡ false
+    → number (o (decode s)) ≡ firstIn rows → number (onSound s o (refused NotSound)) ≡ firstIn (notSound s ∷ rows)
+by-soundness s o number rows one free h = at (represents? s (decode s))
+  where
+    at : Dec (Represents s (decode s)) → number (onSound s o (refused NotSound)) ≡ firstIn (notSound s ∷ rows)
+    at (yes a) = rw (on-sound a o (refused NotSound), on-sound a (λ m. false) true) h
+    at (no n) = rw (on-unsound {s = s} (λ h. n (sound-decodes h)) o (refused NotSound), on-unsound {s = s} (λ h. n (sound-decodes h)) (λ m. false) true) one
+
+-- ---- one call at a time, its tests being any
+
+found-number : (s : List ℕ) (a : Bool) (o : Option Entry) → found s (refuse a LongKey (entryOr Absent o)) .number ≡ firstIn (when LongKey a ∷ when Absent (isNone o) ∷ [])
+found-number s true o = refl
+found-number s false none = refl
+found-number s false (some e) = refl
+
+first-number : (s : List ℕ) (o : Option Entry) → found s (entryOr Absent o) .number ≡ firstIn (when Absent (isNone o) ∷ [])
+first-number s none = refl
+first-number s (some e) = refl
+
+insert-number : (s : List ℕ) (a b c : Bool) (n : Model)
+    → changed s (refuse a LongKey (refuse b LongValue (refuse c Full (done n)))) .number ≡ firstIn (when LongKey a ∷ when LongValue b ∷ when Full c ∷ [])
+insert-number s true b c n = refl
+insert-number s false true c n = refl
+insert-number s false false true n = refl
+insert-number s false false false n = refl
+
+modify-number : (s : List ℕ) (a b c : Bool) (n : Model)
+    → changed s (refuse a LongKey (refuse b LongValue (refuse c Absent (done n)))) .number ≡ firstIn (when LongKey a ∷ when LongValue b ∷ when Absent c ∷ [])
+modify-number s true b c n = refl
+modify-number s false true c n = refl
+modify-number s false false true n = refl
+modify-number s false false false n = refl
+
+delete-number : (s : List ℕ) (a c : Bool) (n : Model) → changed s (refuse a LongKey (refuse c Absent (done n))) .number ≡ firstIn (when LongKey a ∷ when Absent c ∷ [])
+delete-number s true c n = refl
+delete-number s false true n = refl
+delete-number s false false n = refl
+
+-- a witness's number, and the number of what it comes to
+abbrev numberIn : List ℕ → Outcome HashTree → ℕ
+numberIn out o = written out (fitting out o) .number
+
+room-number : (out : List ℕ) (t : HashTree) → numberIn out (done t) ≡ firstIn (shorter out t ∷ [])
+unfolding fitting
+room-number out t = at (ltb (length out) (length (write t)))
+  where
+    at : (b : Bool) → written out (cond b (refused NoRoom) (done (write t))) .number ≡ firstIn (when NoRoom b ∷ [])
+    at true = refl
+    at false = refl
+
+key-number : (out : List ℕ) (a : Bool) (t : HashTree) → numberIn out (refuse a LongKey (done t)) ≡ firstIn (when LongKey a ∷ shorter out t ∷ [])
+unfolding fitting
+key-number out true t = refl
+key-number out false t = room-number out t
+
+range-number : (out : List ℕ) (a b : Bool) (t : HashTree)
+    → numberIn out (refuse a LongKey (refuse b Reversed (done t))) ≡ firstIn (when LongKey a ∷ when Reversed b ∷ shorter out t ∷ [])
+unfolding fitting
+range-number out true b t = refl
+range-number out false true t = refl
+range-number out false false t = room-number out t
+
+create-number : (s : List ℕ) (b : Bool) (n : Model) → changed s (refuse b BadCapacity (done n)) .number ≡ cond b (numberOf BadCapacity) 0
+create-number s true n = refl
+create-number s false n = refl
+
+-- ---- the table
+
+pub table : (s : List ℕ) → Table s
+unfolding isEmptyAnswer countAnswer rootHashAnswer getAnswer firstEntryAnswer nextEntryAnswer insertAnswer modifyAnswer deleteAnswer asHashTreeAnswer keysAnswer witnessAnswer keysWithPrefixAnswer keyRangeAnswer valueRangeAnswer createAnswer witnessed fitting getIn firstEntryIn nextIn insertIn modifyIn deleteIn ofKey ofRange
+table s =
+    let m = decode s in
+    record {
+      isEmpty = by-soundness s (λ m. done (eqb (size (m .tree)) 0)) (λ o. told o .number) [] refl refl refl;
+      count = by-soundness s (λ m. done (size (m .tree))) (λ o. counted o .number) [] refl refl refl;
+      rootHash = by-soundness s (λ m. done (rootHash (m .tree))) (λ o. digested o .number) [] refl refl refl;
+      get = λ key.
+          by-soundness s (getIn key) (λ o. found s o .number) (when LongKey (longKey key) ∷ when Absent (absent key m) ∷ []) refl refl
+          (found-number s (longKey key) (get key (m .tree)));
+      firstEntry = by-soundness s firstEntryIn (λ o. found s o .number) (when Absent (isNone (headOf (entries (m .tree)))) ∷ []) refl refl (first-number s (headOf (entries (m .tree))));
+      nextEntry = λ key.
+          by-soundness s (nextIn key) (λ o. found s o .number) (when LongKey (longKey key) ∷ when Absent (isNone (firstAbove key (entries (m .tree)))) ∷ []) refl refl
+          (found-number s (longKey key) (firstAbove key (entries (m .tree))));
+      insert = λ key value.
+          by-soundness s (insertIn key value) (λ o. changed s o .number)
+          (when LongKey (longKey key) ∷ when LongValue (longValue value) ∷ when Full (absent key m && noFreeSlot m) ∷ []) refl refl
+          (insert-number s (longKey key) (longValue value) (absent key m && noFreeSlot m) (inserted key value m));
+      modify = λ key value.
+          by-soundness s (modifyIn key value) (λ o. changed s o .number)
+          (when LongKey (longKey key) ∷ when LongValue (longValue value) ∷ when Absent (absent key m) ∷ []) refl refl
+          (modify-number s (longKey key) (longValue value) (absent key m) (modified key value m));
+      delete = λ key.
+          by-soundness s (deleteIn key) (λ o. changed s o .number) (when LongKey (longKey key) ∷ when Absent (absent key m) ∷ []) refl refl
+          (delete-number s (longKey key) (absent key m) (deleted key m));
+      asHashTree = λ out.
+          by-soundness s (λ m. done (asHashTree (m .tree))) (numberIn out) (shorter out (asHashTree (m .tree)) ∷ []) refl refl (room-number out (asHashTree (m .tree)));
+      keys = λ out. by-soundness s (λ m. done (keys (m .tree))) (numberIn out) (shorter out (keys (m .tree)) ∷ []) refl refl (room-number out (keys (m .tree)));
+      witness = λ key out.
+          by-soundness s (ofKey witness key) (numberIn out) (when LongKey (longKey key) ∷ shorter out (witness key (m .tree)) ∷ []) refl refl
+          (key-number out (longKey key) (witness key (m .tree)));
+      keysWithPrefix = λ prefix out.
+          by-soundness s (ofKey keysWithPrefix prefix) (numberIn out) (when LongKey (longKey prefix) ∷ shorter out (keysWithPrefix prefix (m .tree)) ∷ []) refl refl
+          (key-number out (longKey prefix) (keysWithPrefix prefix (m .tree)));
+      keyRange = λ first last out.
+          by-soundness s (ofRange keyRange first last) (numberIn out)
+          (when LongKey (longKey first || longKey last) ∷ when Reversed (reversed first last) ∷ shorter out (keyRange first last (m .tree)) ∷ []) refl refl
+          (range-number out (longKey first || longKey last) (reversed first last) (keyRange first last (m .tree)));
+      valueRange = λ first last out.
+          by-soundness s (ofRange valueRange first last) (numberIn out)
+          (when LongKey (longKey first || longKey last) ∷ when Reversed (reversed first last) ∷ shorter out (valueRange first last (m .tree)) ∷ []) refl refl
+          (range-number out (longKey first || longKey last) (reversed first last) (valueRange first last (m .tree)));
+      create = λ capacity.
+          create-number s (eqb capacity 0 || (ltb 1024 capacity || not (eqb (length s) (storeLength capacity)))) (fresh capacity);
+    }

@@ -1,0 +1,38 @@
+-- The bytes of a model: each slot of the store is a node's, or a free one.
+-- Assumes nothing: these are definitions.
+use mathlib.Core.Bool.{Bool, true, false, cond}
+use mathlib.Core.List.{List, [], _∷_}
+use mathlib.Core.Option.{Option, none, some}
+use Prim.Native.Nat.{ℕ}
+use lib.Dec.{eqb}
+use Rattle.slots.specs.Layout.{Slot, nodeSlot, freeSlot, zeros}
+use Rattle.slots.specs.Setters.{bytesOf}
+use Rattle.llrb.specs.Tree.{Entry, Tree, nil, node}
+use Rattle.llrb.specs.Digests.{subtreeDigest}
+use Rattle.llrb.specs.Path.{subtreeAt}
+use Rattle.store.specs.Model.{Model, root, head}
+use Rattle.store.specs.Sound.{headerOf}
+
+-- slot x, if it is in the chain
+abbrev pub inChain : ℕ → List ℕ → Slot
+inChain x [] = freeSlot 0
+inChain x (y ∷ free) = cond (eqb x y) (freeSlot (head free)) (inChain x free)
+
+-- the slot of the node at the top of a subtree, if there is one; else a free slot
+abbrev pub topSlot : Option Tree → Slot → Slot
+topSlot none free = free
+topSlot (some nil) free = free
+topSlot (some (node c e l r)) free = nodeSlot c (e .key) (e .value) (root l) (root r)
+
+abbrev pub topDigest : Option Tree → List ℕ
+topDigest none = zeros 32
+topDigest (some t) = subtreeDigest t
+
+abbrev pub slotAt : Model → ℕ → Slot
+slotAt m x = topSlot (subtreeAt x (m .tree)) (inChain x (m .free))
+
+abbrev pub digestAt : Model → ℕ → List ℕ
+digestAt m x = topDigest (subtreeAt x (m .tree))
+
+unfoldable pub encode : Model → List ℕ
+encode m = bytesOf (headerOf m) (m .capacity) (slotAt m) (digestAt m)

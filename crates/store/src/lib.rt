@@ -1,0 +1,1 @@
+// What a store means, and what each public call answers: specs/ and proofs/ only.
