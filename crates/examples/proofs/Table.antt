@@ -1,31 +1,30 @@
 -- The table of the starred examples holds. Digests stay shut: no example computes one.
 -- Assumes nothing.
-use mathlib.Core.Path.{_≡_, refl, sym, ap, _∙_}
+use mathlib.Core.Path.{_≡_, refl, ap, _∙_}
 use mathlib.Core.List.{List, [], _∷_, _++_}
-use Prim.Native.Nat.{ℕ, _≤_, _<_}
+use Prim.Native.Nat.{ℕ, _≤_}
 use native.Mathlib.Omega.{arith}
 use lib.Dec.{lit≤}
-use lib.ListN.{length, drop}
-use Rattle.key_order.specs.Order.{Key, cmp, isPrefixOf}
+use lib.ListN.{length}
+use Rattle.key_order.specs.Order.{cmp, isPrefixOf}
 use Rattle.slots.specs.declared.Header.{Header}
 use Rattle.slots.specs.Bits.{joined, fields, recut}
 use Rattle.slots.specs.Layout.{header, headAt, keyAt, valueAt, digestAt, place, zeros}
 use Rattle.slots.specs.Setters.{putRoom, setHeader, setSlot, setDigest, withSlots, bytesOf}
 use Rattle.hash_tree.specs.HashTree.{HashTree, Empty, Fork, Labeled, Leaf, Pruned, labeledHash, leafHash}
 use Rattle.hash_tree.specs.Written.{piece, write}
-use Rattle.llrb.specs.Tree.{Tree, nil, node, balance, get, insertGo, insert, size}
+use Rattle.llrb.specs.Tree.{nil, balance, get, insertGo, insert, size}
 use Rattle.llrb.specs.Delete.{readyLeft, readyRight, leanRight, deleteMin, deleteGo, ready, delete, freed}
 use Rattle.llrb.specs.Digests.{subtreeDigest}
 use Rattle.llrb.specs.Path.{subtreeAt}
 use Rattle.witness_trees.specs.Reading.{labels}
 use Rattle.witness_trees.specs.Shown.{threeWayFork}
-use Rattle.witness_trees.specs.Witness.{lowerBound, upperBound, rightPrefixNeighbor, fullWitnessTree, witnessRangeAbove, witnessRangeBelow, witnessRangeBetween, rangeWitness, lookupAndBuildWitness, keys, valueRange, keysWithPrefix, witness}
+use Rattle.witness_trees.specs.Witness.{lowerBound, upperBound, rightPrefixNeighbor, fullWitnessTree, witnessRangeAbove, witnessRangeBetween, rangeWitness, lookupAndBuildWitness, keys, valueRange, keysWithPrefix, witness}
 use Rattle.store.specs.Numbers.{Outcome, done}
 use Rattle.store.specs.Model.{Model, head, fresh, inserted, deleted}
 use Rattle.store.specs.Sound.{Represents}
 use Rattle.store.specs.Encode.{encode}
 use Rattle.store.specs.Decode.{decode}
-use Rattle.store.specs.Answers.{Changed, Written}
 use Rattle.store.specs.Calls.{insertIn, deleteIn, ofKey, ofRange, createAnswer, keysAnswer, witnessAnswer, valueRangeAnswer}
 use Rattle.store.specs.History.{Edit, Insert, Delete, storeAfter, modelAfter}
 use Rattle.store.proofs.Running.{store-holds, store-decodes}

@@ -6,15 +6,14 @@ use mathlib.Core.List.{List, [], _∷_, _++_}
 use Prim.Native.Nat.{ℕ, _≤_}
 use lib.ListN.{length, drop}
 use Rattle.key_order.specs.Order.{Key}
-use Rattle.slots.specs.declared.Header.{Header}
 use Rattle.slots.specs.Layout.{header, zeros}
 use Rattle.hash_tree.specs.HashTree.{HashTree, Fork, Labeled, Pruned, labeledHash, leafHash}
 use Rattle.hash_tree.specs.Written.{write}
-use Rattle.llrb.specs.Tree.{Value, Entry, Tree, nil, node}
+use Rattle.llrb.specs.Tree.{Value, Tree, nil, node}
 use Rattle.witness_trees.specs.Reading.{labels}
 use Rattle.witness_trees.specs.Witness.{keysWithPrefix}
 use Rattle.store.specs.Decode.{decode}
-use Rattle.store.specs.Answers.{Changed, Written}
+use Rattle.store.specs.Answers.{Written}
 use Rattle.store.specs.Calls.{createAnswer, keysAnswer, witnessAnswer, valueRangeAnswer}
 use Rattle.store.specs.History.{Edit, Insert, Delete, storeAfter}
 

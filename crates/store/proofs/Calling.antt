@@ -1,22 +1,21 @@
 -- What a call comes to: why it is refused, or that it is done and on what grounds; each edit keeps a model lawful.
 -- Assumes nothing.
-use mathlib.Core.Path.{_≡_, refl, sym, ap, subst, _∙_}
-use mathlib.Core.Bool.{Bool, true, false, cond, _&&_}
-use mathlib.Core.List.{List, [], _∷_}
+use mathlib.Core.Path.{_≡_, refl}
+use mathlib.Core.Bool.{Bool, true, false, _&&_}
 use mathlib.Core.Option.{Option, none, some}
-use Prim.Native.Nat.{ℕ, zero, suc, _+_, _≤_}
+use Prim.Native.Nat.{ℕ, _≤_}
 use native.Mathlib.Omega.{arith}
-use lib.Dec.{ltb, eqb}
+use lib.Dec.{eqb}
 use lib.ListN.{length}
 use borrow.Author.Tests.{ltb-false, eqb-false}
-use Rattle.key_order.specs.Order.{Key, cmp}
-use Rattle.llrb.specs.Tree.{Value, Entry, Tree, get}
+use Rattle.key_order.specs.Order.{Key}
+use Rattle.llrb.specs.Tree.{Value, Entry, get}
 use Rattle.store.specs.Numbers.{Refusal, NotSound, LongKey, LongValue, Reversed, Full, NoRoom, Absent, BadCapacity, Malformed, LongMessage, numberOf, Outcome, refused, done}
 use Rattle.store.specs.Model.{Model, inserted, modified, deleted}
 use Rattle.store.specs.Sound.{Lawful}
 use Rattle.store.specs.Calls.{refuse, longKey, longValue, isNone, noFreeSlot, insertIn, modifyIn, deleteIn}
 use Rattle.store.specs.History.{Edit, Insert, Modify, Delete, editIn, after}
-use Rattle.store.proofs.Operating.{Room, present, absent, inserted-lawful, modified-lawful, deleted-lawful}
+use Rattle.store.proofs.Operating.{present, absent, inserted-lawful, modified-lawful, deleted-lawful}
 
 -- a refusal's number is never 0
 pub never-zero : (r : Refusal) → eqb (numberOf r) 0 ≡ false

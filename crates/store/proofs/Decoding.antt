@@ -1,21 +1,20 @@
 -- A store that holds a model decodes to it: so a store holds one model only, whether it is sound can be told, and `onSound` is what it says.
 -- Assumes nothing.
 use mathlib.Core.Path.{_≡_, refl, sym, ap, subst, _∙_}
-use mathlib.Core.Bool.{Bool, true, false}
 use mathlib.Core.List.{List, [], _∷_, _++_}
-use Prim.Native.Nat.{ℕ, zero, suc, _+_, _-_, _≤_, _<_}
+use Prim.Native.Nat.{ℕ, zero, suc, _+_, _≤_}
 use native.Mathlib.Nat.{not-suc-le-zero}
 use native.Mathlib.Omega.{arith}
 use lib.ListN.{length, length-append}
 use Rattle.slots.specs.declared.Header.{Header}
 use Rattle.slots.specs.Layout.{header, Slot, slot, keyOf, valueOf}
 use Rattle.slots.proofs.Writing.{node-key, node-value}
-use Rattle.llrb.specs.Tree.{Entry, Tree, nil, node, entries, size}
+use Rattle.llrb.specs.Tree.{Tree, nil, node, size}
 use Rattle.llrb.proofs.Height.{size-node}
-use Rattle.store.specs.Counts.{is, occurs, numbersTo}
+use Rattle.store.specs.Counts.{occurs, numbersTo}
 use Rattle.store.specs.Counting.{is-self, occurs-append, numbers-low, same-length, numbers-length}
 use Rattle.store.specs.Model.{Model, slotsOf, root, head}
-use Rattle.store.specs.Sound.{headerOf, Nodes, Chain, Laid, Lawful, Represents, Sound}
+use Rattle.store.specs.Sound.{Nodes, Chain, Lawful, Represents, Sound}
 use Rattle.store.specs.Decode.{treeAt, chainAt, decode}
 use Rattle.store.specs.Deciding.{told}
 use Rattle.store.specs.Decide.{represents?, held, onSound}

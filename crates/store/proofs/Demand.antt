@@ -1,12 +1,12 @@
 -- DEMAND 3, proved of every history from a fresh store of any capacity.
 -- Assumes nothing.
 use mathlib.Core.Path.{_≡_, refl, sym, ap, subst, _∙_}
-use mathlib.Core.Bool.{Bool, true, false, cond, _||_}
+use mathlib.Core.Bool.{true, false}
 use mathlib.Core.List.{List, [], _∷_}
 use mathlib.Core.Option.{Option, none, some, Option·map}
-use Prim.Native.Nat.{ℕ, zero, suc, _+_, _≤_}
+use Prim.Native.Nat.{ℕ, _≤_}
 use native.Mathlib.Omega.{arith}
-use lib.ListN.{length, take}
+use lib.ListN.{length}
 use borrow.Author.Tests.{le-ltb}
 use Rattle.key_order.specs.declared.Ordering.{Ordering}
 use Rattle.key_order.specs.declared.Ordering.the-variants.{Less, Equal, Greater}
@@ -14,26 +14,21 @@ use Rattle.key_order.specs.Order.{Key, cmp, pick}
 use Rattle.key_order.proofs.Laws.{gt-lt}
 use Rattle.slots.specs.declared.Header.{Header}
 use Rattle.slots.specs.Layout.{header}
-use Rattle.hash_tree.specs.HashTree.{HashTree}
 use Rattle.hash_tree.specs.Written.{write}
-use Rattle.hash_tree.specs.Whole as whole
-use Rattle.llrb.specs.Tree.{Value, Entry, Tree, nil, entries, size, get}
-use Rattle.llrb.specs.Map.{Pair, pairs, find, put, change, drop}
+use Rattle.llrb.specs.Tree.{Value, Entry, entries, size, get}
+use Rattle.llrb.specs.Map.{pairs, find, put, change, drop}
 use Rattle.llrb.specs.Digests.{rootHash}
 use Rattle.llrb.proofs.History.{insert-pairs, modify-pairs, delete-pairs}
 use Rattle.llrb.proofs.Maps.{value-find}
-use Rattle.witness_trees.specs.Reading.{labels, leaves}
-use Rattle.witness_trees.specs.Witness.{keyRange, keysOnly}
-use Rattle.witness_trees.specs.Rules.{Le, keysOf, rangeRule}
-use Rattle.witness_trees.proofs.Calls.{key-range-is}
+use Rattle.witness_trees.specs.Witness.{keyRange}
+use Rattle.witness_trees.specs.Rules.{Le}
 use Rattle.witness_trees.proofs.Laws.{key-range-witness, key-range-leaves}
-use Rattle.store.specs.Numbers.{Refusal, NotSound, LongKey, Reversed, Outcome, refused, done}
-use Rattle.store.specs.Model.{Model, valueIn, head, fresh, inserted, modified, deleted}
-use Rattle.store.specs.Sound.{Digests, Lawful, Represents}
-use Rattle.store.specs.Decode.{decode}
-use Rattle.store.specs.Answers.{Digested, digested}
-use Rattle.store.specs.Calls.{refuse, longKey, reversed, ofRange, witnessed, getAnswer, rootHashAnswer, keyRangeAnswer}
-use Rattle.store.specs.History.{Edit, Insert, Modify, Delete, storeAfter, accepted, lastValue, mapAfter, newKeys, deletes, modelAfter}
+use Rattle.store.specs.Numbers.{NotSound, Outcome, refused, done}
+use Rattle.store.specs.Model.{Model, head, fresh, inserted, modified, deleted}
+use Rattle.store.specs.Sound.{Lawful, Represents}
+use Rattle.store.specs.Answers.{counted, digested}
+use Rattle.store.specs.Calls.{reversed, ofRange, countAnswer, getAnswer, rootHashAnswer, keyRangeAnswer}
+use Rattle.store.specs.History.{Edit, storeAfter, accepted, lastValue, mapAfter, modelAfter}
 use Rattle.store.specs.Demand.{Lies, KeyRangeShown, Demand3}
 use Rattle.store.proofs.Decoding.{decoded, live-and-free, on-sound}
 use Rattle.store.proofs.Operating.{tree-lawful}
@@ -42,7 +37,7 @@ use Rattle.store.proofs.Running.{model-lawful, store-holds, Step, stays
 use Rattle.store.proofs.Histories.{map-after, live-after}
 use Rattle.store.proofs.Replacing.{insert-replaces, modify-replaces}
 use Rattle.store.proofs.Reading.{get-lies, get-absent}
-use Rattle.store.proofs.Witnessing.{shown-rebuilds, Fills, fills}
+use Rattle.store.proofs.Witnessing.{witnesses-rebuild, fills}
 
 -- ---- the map as a list
 
@@ -68,6 +63,10 @@ root-hash : {s : List ℕ} {m : Model} → Represents s m → rootHashAnswer s .
 unfolding rootHashAnswer
 root-hash a = ap (λ (o : Outcome (List ℕ)). digested o .digest) (on-sound a (λ m. done (rootHash (m .tree))) (refused NotSound))
 
+count-is : {s : List ℕ} {m : Model} → Represents s m → countAnswer s ≡ record { number = 0; count = size (m .tree) }
+unfolding countAnswer
+count-is a = ap counted (on-sound a (λ m. done (size (m .tree))) (refused NotSound))
+
 not-reversed : (first last : Key) → Le first last → reversed first last ≡ false
 not-reversed first last o = at (cmp first last) refl
   where
@@ -89,7 +88,7 @@ module _ {s : List ℕ} {m : Model} (a : Represents s m) (first last : Key) (out
       let w = key-range-witness first last t (a .lawful .ordered) o in
       record {
         number = f .number;
-        rebuilds = rw (f .bytes, key-range-is first last t (a .lawful .ordered) o, root-hash a) (shown-rebuilds (rangeRule first last (keysOf (entries t)) keysOnly) (a .lawful));
+        rebuilds = rw (f .bytes, root-hash a) (witnesses-rebuild (a .lawful) .keyRange first last o);
         tree = keyRange first last t;
         bytes = f .bytes;
         labelled = w .labelled;
@@ -152,6 +151,7 @@ module _ (capacity : ℕ) (low : 1 ≤ capacity) (high : capacity ≤ 1024) wher
         missing = λ key p l. get-absent a key p (no-entry (get key (modelAfter capacity h .tree)) (map-after capacity low high h key ∙ l));
         live = rw n (live-after capacity low high h);
         free = rw (n, d) (live-and-free g ∙ capacity-after h);
+        counted = rw n (count-is a);
         insert = λ key value old l v. let e = present h key old l in insert-replaces key value (e .0) g (e .1) v a;
         modify = λ key value old l v. let e = present h key old l in modify-replaces key value (e .0) g (e .1) v a;
         keyRange = λ first last out p q o r.

@@ -1,29 +1,26 @@
 -- The bytes of a lawful model hold it, and a store that holds a model is the model's bytes: encode and decode are each other's inverse.
 -- Assumes nothing.
-use mathlib.Core.Path.{_≡_, refl, sym, ap, subst, _∙_}
+use mathlib.Core.Path.{_≡_, sym, subst, _∙_}
 use mathlib.Core.Bool.{Bool, true, false, cond}
 use mathlib.Core.List.{List, [], _∷_, _++_}
-use mathlib.Core.Option.{Option, none, some}
-use Prim.Native.Nat.{ℕ, zero, suc, _+_, _≤_, _<_}
+use Prim.Native.Nat.{ℕ, zero, _≤_, _<_}
 use native.Mathlib.Omega.{arith}
 use lib.Dec.{eqb, lit<}
-use lib.ListN.{length, length-append}
+use lib.ListN.{length}
 use Rattle.slots.specs.Bits.{Bytes}
-use Rattle.slots.specs.Layout.{storeLength, HeaderFits, header, Slot, SlotFits, slot, digestOf, freeSlot, zeros}
-use Rattle.slots.specs.Setters.{bytesOf}
+use Rattle.slots.specs.Layout.{HeaderFits, SlotFits, slot, freeSlot}
 use Rattle.slots.proofs.Writing.{length-zeros, node-fits, free-fits}
 use Rattle.slots.proofs.Whole.{length-bytesOf, header-bytesOf, slot-bytesOf, digest-bytesOf, is-bytesOf}
 use Rattle.hash_tree.specs.DigestLaws.{emptyHash-length, forkHash-length, labeledHash-length}
-use Rattle.llrb.specs.Tree.{Entry, Tree, nil, node, entries, size}
-use Rattle.llrb.specs.Digests.{dataDigest, nodeDigest, subtreeDigest}
-use Rattle.llrb.specs.Path.{Sub, whole, on-left, on-right, subtreeAt}
-use Rattle.store.specs.Counts.{is, occurs}
+use Rattle.llrb.specs.Tree.{Entry, Tree, nil, node, entries}
+use Rattle.llrb.specs.Digests.{subtreeDigest}
+use Rattle.llrb.specs.Path.{Sub, whole, on-left, on-right}
+use Rattle.store.specs.Counts.{occurs}
 use Rattle.store.specs.Counting.{is-self}
-use Rattle.store.specs.Model.{Model, slotsOf, root, head}
-use Rattle.store.specs.Sound.{headerOf, Short, Laid, Lawful, Represents, Sound}
-use Rattle.store.specs.Encode.{inChain, topSlot, topDigest, slotAt, digestAt, encode}
+use Rattle.store.specs.Model.{Model, root, head}
+use Rattle.store.specs.Sound.{headerOf, Short, Lawful, Represents, Sound}
+use Rattle.store.specs.Encode.{inChain, slotAt, digestAt, encode}
 use Rattle.store.specs.Decode.{decode}
-use Rattle.store.proofs.Trees.{slots-node}
 use Rattle.store.proofs.Decoding.{live-and-free, decoded, sound-decodes}
 use Rattle.store.proofs.Seats.{sub-left, sub-right, sub-occurs, top-occurs, Seat, missing, seated, seat, Shows, laid-shows, shows-laid, tree-within, chain-within}
 

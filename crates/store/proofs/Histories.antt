@@ -1,18 +1,17 @@
 -- What a history leaves: the map of its accepted calls, and the live count.
 -- Assumes nothing.
-use mathlib.Core.Path.{_≡_, refl, sym, ap, subst, _∙_}
-use mathlib.Core.Bool.{Bool, true, false, cond}
+use mathlib.Core.Path.{_≡_, refl, sym, ap, _∙_}
 use mathlib.Core.List.{List, [], _∷_}
 use mathlib.Core.Option.{Option, none, some, Option·map}
-use Prim.Native.Nat.{ℕ, zero, suc, _+_, _≤_}
+use Prim.Native.Nat.{ℕ, suc, _+_, _≤_}
 use native.Mathlib.Omega.{arith}
 use lib.ListN.{length}
 use Rattle.key_order.specs.declared.Ordering.{Ordering}
 use Rattle.key_order.specs.declared.Ordering.the-variants.{Less, Equal, Greater}
 use Rattle.key_order.specs.Order.{Key, cmp, pick}
 use Rattle.key_order.proofs.Laws.{lt≢eq, gt≢eq, cmp-eq}
-use Rattle.llrb.specs.Tree.{Value, Entry, Tree, nil, node, entries, size, get, insert, modify}
-use Rattle.llrb.specs.Delete.{delete, freed}
+use Rattle.llrb.specs.Tree.{Value, Entry, Tree, entries, size, get, insert, modify}
+use Rattle.llrb.specs.Delete.{delete}
 use Rattle.llrb.specs.Sorted.{Mem}
 use Rattle.llrb.specs.Shape as shape
 use Rattle.llrb.proofs.Maps.{get-insert-same, get-insert-other, get-delete-same, get-delete-other}
@@ -21,7 +20,7 @@ use Rattle.store.specs.Counts.{one}
 use Rattle.store.specs.Model.{Model, valueIn, head, tail, fresh, freeAfter, inserted, modified, deleted}
 use Rattle.store.specs.Sound.{Lawful}
 use Rattle.store.specs.Calls.{isNone}
-use Rattle.store.specs.History.{Edit, Insert, Modify, Delete, storeAfter, accepted, lastValue, newKeys, deletes, modelAfter}
+use Rattle.store.specs.History.{Edit, accepted, lastValue, newKeys, deletes, modelAfter}
 use Rattle.store.proofs.Decoding.{live-and-free}
 use Rattle.store.proofs.Operating.{tree-lawful, get-mem}
 use Rattle.store.proofs.Calling.{Done, newly, again, changes, goes, done-lawful}

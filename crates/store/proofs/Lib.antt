@@ -1,4 +1,4 @@
--- What is proved of stores and of the calls.
+-- What is proved of stores and of the calls. The results: Decoding and Encoding (what a sound store is), Table, Refusing, Demand.
 pub mod Trees
 pub mod Decoding
 pub mod Operating

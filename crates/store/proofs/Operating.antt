@@ -1,17 +1,17 @@
 -- create, insert, modify and delete keep a model lawful.
 -- Assumes nothing.
-use mathlib.Core.Path.{_≡_, refl, sym, ap, subst, _∙_}
+use mathlib.Core.Path.{_≡_, refl, sym, _∙_}
 use mathlib.Core.Logic.{_⊎_, inl, inr}
-use mathlib.Core.List.{List, [], _∷_, _++_}
-use mathlib.Core.Option.{Option, none, some}
-use Prim.Native.Nat.{ℕ, zero, suc, _+_, _≤_}
+use mathlib.Core.List.{List, [], _∷_}
+use mathlib.Core.Option.{none, some}
+use Prim.Native.Nat.{ℕ, _+_, _≤_}
 use native.Mathlib.Omega.{arith}
 use lib.ListN.{length}
 use Rattle.key_order.specs.declared.Ordering.{Ordering}
 use Rattle.key_order.specs.declared.Ordering.the-variants.{Less, Equal, Greater}
 use Rattle.key_order.specs.Order.{Key, cmp, pick}
-use Rattle.llrb.specs.Tree.{Value, Entry, Tree, nil, node, entries, size, get, insert, modify, withValue}
-use Rattle.llrb.specs.Delete.{delete, freed, moved}
+use Rattle.llrb.specs.Tree.{Value, Entry, Tree, entries, get, insert, withValue}
+use Rattle.llrb.specs.Delete.{delete, freed}
 use Rattle.llrb.specs.Sorted.{Sorted, Mem, Cut, gone, over, skip}
 use Rattle.llrb.specs.Map.{slots, putE, changeE, Without}
 use Rattle.llrb.specs.Shape as shape

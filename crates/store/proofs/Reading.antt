@@ -4,8 +4,8 @@ use mathlib.Core.Path.{_≡_, refl, sym, ap, subst, _∙_}
 use mathlib.Core.Bool.{Bool, true, false, cond, true≢false}
 use mathlib.Core.Logic.{_⊎_, inl, inr}
 use mathlib.Core.List.{List, [], _∷_, _++_}
-use mathlib.Core.Option.{Option, none, some}
-use Prim.Native.Nat.{ℕ, zero, suc, _+_, _*_, _≤_, _<_}
+use mathlib.Core.Option.{none, some}
+use Prim.Native.Nat.{ℕ, _≤_}
 use native.Mathlib.Omega.{arith}
 use lib.Dec.{eqb, lit≤}
 use lib.ListN.{length, drop}
@@ -15,28 +15,28 @@ use Rattle.key_order.specs.declared.Ordering.{Ordering}
 use Rattle.key_order.specs.declared.Ordering.the-variants.{Less, Equal, Greater}
 use Rattle.key_order.specs.Order.{Key, cmp, pick}
 use Rattle.slots.specs.declared.Header.{Header}
-use Rattle.slots.specs.Layout.{header, Slot, slot, keyOf, valueOf, keyAt, valueAt, part, room, place, nodeSlot, freeSlot}
+use Rattle.slots.specs.Layout.{header, Slot, slot, keyOf, valueOf, keyAt, valueAt, part, room, place, freeSlot}
 use Rattle.slots.proofs.Writing.{node-key, node-value}
-use Rattle.llrb.specs.Tree.{Value, Entry, Tree, nil, node, entries, size, get}
+use Rattle.llrb.specs.Tree.{Entry, Tree, node, entries, size, get}
 use Rattle.llrb.specs.Path.{Sub, whole, on-left, on-right}
 use Rattle.llrb.specs.Iterate.{headOf, firstAbove}
 use Rattle.llrb.proofs.Height.{lawful-height, height-20}
 use Rattle.store.specs.Counts.{occurs}
 use Rattle.store.specs.Deciding.{le?}
 use Rattle.store.specs.Counting.{numbers-in, numbers-most}
-use Rattle.store.specs.Numbers.{Refusal, NotSound, LongKey, Absent, Outcome, refused, done}
+use Rattle.store.specs.Numbers.{NotSound, refused, done}
 use Rattle.store.specs.Model.{Model, slotsOf, root, head}
-use Rattle.store.specs.Sound.{Short, Lawful, Represents}
+use Rattle.store.specs.Sound.{Represents}
 use Rattle.store.specs.Encode.{inChain}
-use Rattle.store.specs.Answers.{Found, found}
-use Rattle.store.specs.Calls.{refuse, longKey, entryOr, getIn, firstIn, nextIn, getAnswer, firstEntryAnswer, nextEntryAnswer}
+use Rattle.store.specs.Answers.{found}
+use Rattle.store.specs.Calls.{getIn, firstIn, nextIn, getAnswer, firstEntryAnswer, nextEntryAnswer}
 use Rattle.store.specs.Demand.{Lies}
 use Rattle.store.specs.Words.{Words}
 use Rattle.store.proofs.Decoding.{once-sum, live-and-free, on-sound}
 use Rattle.store.proofs.Operating.{tree-lawful}
 use Rattle.store.proofs.Seats.{sub-nodes, Seat, missing, seated, seat, not-seated, laid-shows, tree-within, chain-within, tree-once, chain-once}
 use Rattle.store.proofs.Encoding.{sub-short, short-right}
-use Rattle.store.proofs.Replacing.{Own, own-node, key-short}
+use Rattle.store.proofs.Replacing.{own-node, key-short}
 
 -- ---- in words
 

@@ -12,10 +12,10 @@ use Rattle.hash_tree.specs.HashTree.{HashTree}
 use Rattle.llrb.specs.Tree.{Entry, size}
 use Rattle.llrb.specs.Digests.{rootHash}
 use Rattle.witness_trees.specs.Witness.{asHashTree, keys, keyRange, valueRange, keysWithPrefix, witness}
-use Rattle.store.specs.Numbers.{Refusal, NotSound, BadCapacity, Outcome, refused, done}
+use Rattle.store.specs.Numbers.{NotSound, BadCapacity, Outcome, refused, done}
 use Rattle.store.specs.Model.{Model, fresh}
 use Rattle.store.specs.Decide.{onSound}
-use Rattle.store.specs.Answers.{Told, told, Counted, counted, Digested, digested, Found, found, Changed, changed, Written, written, fitting}
+use Rattle.store.specs.Answers.{told, counted, digested, found, changed, written, fitting}
 use Rattle.store.specs.Calls.{refuse, getIn, firstIn, nextIn, insertIn, modifyIn, deleteIn, ofKey, ofRange, witnessed, createAnswer, isEmptyAnswer, countAnswer, rootHashAnswer, getAnswer, firstEntryAnswer, nextEntryAnswer, insertAnswer, modifyAnswer, deleteAnswer, asHashTreeAnswer, keysAnswer, witnessAnswer, keysWithPrefixAnswer, keyRangeAnswer, valueRangeAnswer}
 use Rattle.store.specs.Demand.{Kept, Unwritten, Nothing, Demand1}
 

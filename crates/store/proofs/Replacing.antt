@@ -3,10 +3,10 @@
 -- Assumes nothing.
 use mathlib.Core.Path.{_≡_, refl, sym, ap, subst, _∙_}
 use mathlib.Core.Bool.{Bool, true, false, cond}
-use mathlib.Core.Logic.{_≢_, _⊎_, inl, inr}
+use mathlib.Core.Logic.{_≢_, inl, inr}
 use mathlib.Core.List.{List, [], _∷_, _++_}
 use mathlib.Core.Option.{Option, none, some}
-use Prim.Native.Nat.{ℕ, zero, suc, _+_, _≤_, _<_}
+use Prim.Native.Nat.{ℕ, zero, _≤_}
 use native.Mathlib.Omega.{arith}
 use lib.Dec.{eqb}
 use lib.ListN.{length}
@@ -16,27 +16,26 @@ use Rattle.key_order.specs.declared.Ordering.the-variants.{Less, Equal, Greater
 use Rattle.key_order.specs.Order.{Key, cmp, pick}
 use Rattle.key_order.proofs.Laws.{cmp-refl, cmp-eq}
 use Rattle.slots.specs.Bits.{Bytes}
-use Rattle.slots.specs.Layout.{storeLength, header, Slot, slot, digestOf, nodeSlot}
+use Rattle.slots.specs.Layout.{header, Slot, slot, nodeSlot}
 use Rattle.slots.specs.Setters as setters
 use Rattle.llrb.specs.Tree.{Value, Entry, Tree, nil, node, entries, size, get, insert, modify, withValue}
-use Rattle.llrb.specs.Delete.{delete, freed}
-use Rattle.llrb.specs.Sorted.{Sorted, Mem}
+use Rattle.llrb.specs.Delete.{freed}
+use Rattle.llrb.specs.Sorted.{Mem}
 use Rattle.llrb.specs.Map.{findE, putE, Out}
 use Rattle.llrb.specs.Path.{Sub, whole, on-left, on-right, orElse, subtreeAt, searchPath}
 use Rattle.llrb.proofs.Get.{get-find}
 use Rattle.llrb.proofs.Insert.{insert-put}
 use Rattle.llrb.proofs.History.{insert-lawful, modify-slots}
 use Rattle.llrb.proofs.Replace.{insert-present, modify-off-path}
-use Rattle.store.specs.Numbers.{Refusal, LongKey, LongValue, Full, Absent, Outcome, refused, done}
-use Rattle.store.specs.Model.{Model, slotsOf, root, head, freeAfter, inserted, modified, deleted}
+use Rattle.store.specs.Numbers.{Outcome, done}
+use Rattle.store.specs.Model.{Model, root, head, freeAfter, inserted, modified, deleted}
 use Rattle.store.specs.Sound.{headerOf, Short, Lawful, Represents}
-use Rattle.store.specs.Encode.{inChain, topSlot, topDigest, slotAt, digestAt, encode}
-use Rattle.store.specs.Decode.{decode}
-use Rattle.store.specs.Answers.{Changed, changed}
-use Rattle.store.specs.Calls.{refuse, longKey, longValue, isNone, noFreeSlot, insertIn, modifyIn, deleteIn}
-use Rattle.store.specs.History.{Edit, Insert, Modify, Delete, answerOf, editIn}
+use Rattle.store.specs.Encode.{inChain, topSlot, topDigest, encode}
+use Rattle.store.specs.Answers.{changed}
+use Rattle.store.specs.Calls.{insertIn, modifyIn}
+use Rattle.store.specs.History.{Insert, Modify, answerOf}
 use Rattle.store.specs.Demand.{Replaced}
-use Rattle.store.proofs.Trees.{slots-node, size-slots}
+use Rattle.store.proofs.Trees.{size-slots}
 use Rattle.store.proofs.Decoding.{decoded}
 use Rattle.store.proofs.Operating.{tree-lawful, get-mem, get-not, modified-lawful, deleted-lawful}
 use Rattle.store.proofs.Seats.{Seat, missing, seated, seat, found, Shows, laid-shows, tree-once, tree-within, sub-occurs, top-occurs}

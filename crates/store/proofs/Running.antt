@@ -1,28 +1,25 @@
 -- After any history the store is the bytes of a lawful model: the one that the same history gives on models.
 -- Assumes nothing.
 use mathlib.Core.Path.{_≡_, refl, sym, ap, subst, _∙_}
-use mathlib.Core.Bool.{Bool, true, false, cond}
 use mathlib.Core.List.{List, [], _∷_}
-use mathlib.Core.Option.{Option, none, some}
-use Prim.Native.Nat.{ℕ, zero, suc, _+_, _≤_}
+use mathlib.Core.Logic.{_≢_}
+use Prim.Native.Nat.{ℕ, _≤_}
 use native.Mathlib.Omega.{arith}
-use lib.Dec.{eqb}
 use lib.ListN.{length}
-use Rattle.key_order.specs.Order.{Key}
-use Rattle.llrb.specs.Tree.{Value, Entry, Tree, size, get}
-use Rattle.store.specs.Counts.{one}
-use Rattle.store.specs.Numbers.{Refusal, NotSound, numberOf, Outcome, refused, done}
-use Rattle.store.specs.Model.{Model, tail, fresh, freeAfter, inserted, modified, deleted}
+use borrow.Author.Tests.{eq-eqb, ne-eqb, le-ltb}
+use Rattle.slots.specs.Layout.{storeLength}
+use Rattle.store.specs.Numbers.{NotSound, Outcome, refused, done}
+use Rattle.store.specs.Model.{Model}
 use Rattle.store.specs.Sound.{Lawful, Represents, Sound}
 use Rattle.store.specs.Encode.{encode}
 use Rattle.store.specs.Decode.{decode}
 use Rattle.store.specs.Answers.{Changed, changed}
-use Rattle.store.specs.Calls.{insertIn, modifyIn, deleteIn, insertAnswer, modifyAnswer, deleteAnswer}
+use Rattle.store.specs.Calls.{insertIn, modifyIn, deleteIn, createAnswer, insertAnswer, modifyAnswer, deleteAnswer}
 use Rattle.store.specs.History.{Edit, Insert, Modify, Delete, answerOf, storeAfter, accepted, editIn, after, modelAfter}
 use Rattle.store.proofs.Decoding.{on-sound}
-use Rattle.store.proofs.Encoding.{encode-holds, decode-encode}
+use Rattle.store.proofs.Encoding.{encode-holds, encode-sound, decode-encode}
 use Rattle.store.proofs.Operating.{fresh-lawful}
-use Rattle.store.proofs.Calling.{never-zero, edit-lawful, Done, Verdict, not-done, is-done, verdict}
+use Rattle.store.proofs.Calling.{never-zero, edit-lawful, done-lawful, Done, Verdict, not-done, is-done, verdict}
 
 -- an edit of the bytes of a lawful model
 pub edit-answer : (d : Edit) {s : List ℕ} {m : Model} → Represents s m → answerOf d s ≡ changed s (editIn d m)
@@ -30,6 +27,22 @@ unfolding insertAnswer modifyAnswer deleteAnswer
 edit-answer (Insert k v) {s} a = ap (changed s) (on-sound a (insertIn k v) (refused NotSound))
 edit-answer (Modify k v) {s} a = ap (changed s) (on-sound a (modifyIn k v) (refused NotSound))
 edit-answer (Delete k) {s} a = ap (changed s) (on-sound a (deleteIn k) (refused NotSound))
+
+-- whatever the answer, a sound store stays sound
+pub edit-sound : (d : Edit) {s : List ℕ} → Sound s → Sound (answerOf d s .store)
+edit-sound d {s} (m, a) = rw (edit-answer d a) (at (verdict d m))
+  where
+    at : {o : Outcome Model} → Verdict d m o → Sound (changed s o .store)
+    at not-done = (m, a)
+    at (is-done {n = n} c) = encode-sound (done-lawful (a .lawful) c)
+
+-- create in any buffer of the right length: a fresh store
+pub create-fresh : (capacity : ℕ) (s : List ℕ) → 1 ≤ capacity → capacity ≤ 1024 → length s ≡ storeLength capacity
+    → createAnswer capacity s ≡ record { number = 0; store = storeAfter capacity [] }
+unfolding createAnswer storeAfter
+create-fresh capacity s p q e =
+    let n : capacity ≢ 0 = λ z. omega arith in
+    rw (ne-eqb capacity 0 n, le-ltb 1024 capacity q, eq-eqb (length s) (storeLength capacity) e)
 
 changed-store : (m : Model) (o : Outcome Model) → changed (encode m) o .store ≡ encode (after o m)
 changed-store m (refused r) = refl

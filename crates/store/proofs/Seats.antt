@@ -1,27 +1,26 @@
 -- Which subtree stands at a slot; and a store seen slot by slot is the store seen along its tree and chain.
 -- Assumes nothing.
-use mathlib.Core.Path.{_≡_, refl, sym, ap, subst, _∙_}
-use mathlib.Core.Bool.{Bool, true, false, cond}
-use mathlib.Core.Logic.{_≢_, _⊎_, inl, inr}
-use mathlib.Core.List.{List, [], _∷_, _++_}
-use mathlib.Core.Option.{Option, none, some}
+use mathlib.Core.Path.{_≡_, refl, sym, ap, _∙_}
+use mathlib.Core.Bool.{Bool, true, false}
+use mathlib.Core.Logic.{_≢_}
+use mathlib.Core.List.{List, [], _∷_}
+use mathlib.Core.Option.{none, some}
 use Prim.Native.Nat.{ℕ, zero, suc, _+_, _≤_, _<_}
 use native.Mathlib.Nat.{not-suc-le-zero}
 use native.Mathlib.Omega.{arith}
 use lib.Dec.{eqb}
 use lib.ListN.{length}
 use borrow.Author.Tests.{eqb-true, eqb-false, eq-eqb, ne-eqb}
-use Rattle.slots.specs.Layout.{storeLength, header, Slot, slot, digestOf, nodeSlot, freeSlot, zeros}
-use Rattle.llrb.specs.Tree.{Entry, Tree, nil, node, entries}
-use Rattle.llrb.specs.Digests.{subtreeDigest}
-use Rattle.llrb.specs.Path.{Sub, whole, on-left, on-right, orElse, subtreeAt}
-use Rattle.store.specs.Counts.{is, occurs, numbersTo}
+use Rattle.slots.specs.Layout.{storeLength, header, slot, digestOf, zeros}
+use Rattle.llrb.specs.Tree.{Entry, Tree, nil, node}
+use Rattle.llrb.specs.Path.{Sub, whole, on-left, on-right, subtreeAt}
+use Rattle.store.specs.Counts.{is, occurs}
 use Rattle.store.specs.Deciding.{le?}
-use Rattle.store.specs.Counting.{is-self, is-other, is-same, either, numbers-in, numbers-low, numbers-high, numbers-most}
-use Rattle.store.specs.Model.{Model, slotsOf, root, head}
+use Rattle.store.specs.Counting.{is-self, is-other, numbers-in, numbers-low, numbers-high, numbers-most}
+use Rattle.store.specs.Model.{Model, slotsOf, head}
 use Rattle.store.specs.Sound.{headerOf, Nodes, Digests, Chain, Laid, Lawful}
-use Rattle.store.specs.Encode.{inChain, topSlot, topDigest, slotAt, digestAt}
-use Rattle.store.proofs.Trees.{slots-node, Where, top, left, right, find-slot}
+use Rattle.store.specs.Encode.{inChain, slotAt, digestAt}
+use Rattle.store.proofs.Trees.{slots-node}
 use Rattle.store.proofs.Decoding.{once-sum}
 
 -- ---- subtrees

@@ -1,28 +1,27 @@
 -- The calls answer the numbers of document 01's table, in its order.
 -- Assumes nothing.
-use mathlib.Core.Path.{_≡_, refl, sym, ap, _∙_}
+use mathlib.Core.Path.{_≡_, refl}
 use mathlib.Core.Bool.{Bool, true, false, cond, not, _&&_, _||_}
 use mathlib.Core.List.{List, [], _∷_}
 use mathlib.Core.Option.{Option, none, some}
 use Prim.Native.Nat.{ℕ}
 use lib.Dec.{ltb, eqb}
 use lib.ListN.{length}
-use Rattle.key_order.specs.Order.{Key}
 use Rattle.slots.specs.Layout.{storeLength}
 use Rattle.hash_tree.specs.HashTree.{HashTree}
 use Rattle.hash_tree.specs.Written.{write}
-use Rattle.llrb.specs.Tree.{Value, Entry, Tree, entries, size, get}
+use Rattle.llrb.specs.Tree.{Entry, entries, size, get}
 use Rattle.llrb.specs.Digests.{rootHash}
 use Rattle.llrb.specs.Iterate.{headOf, firstAbove}
 use Rattle.witness_trees.specs.Witness.{asHashTree, keys, keyRange, valueRange, keysWithPrefix, witness}
-use Rattle.store.specs.Numbers.{Refusal, NotSound, LongKey, LongValue, Reversed, Full, NoRoom, Absent, BadCapacity, numberOf, Outcome, refused, done}
+use Rattle.store.specs.Numbers.{NotSound, LongKey, LongValue, Reversed, Full, NoRoom, Absent, BadCapacity, numberOf, Outcome, refused, done}
 use Rattle.store.specs.Model.{Model, fresh, inserted, modified, deleted}
 use Rattle.store.specs.Sound.{Represents}
 use Rattle.store.specs.Decode.{decode}
 use Rattle.store.specs.Decide.{represents?, onSound}
-use Rattle.store.specs.Answers.{Told, told, Counted, counted, Digested, digested, Found, found, Changed, changed, Written, written, fitting}
+use Rattle.store.specs.Answers.{told, counted, digested, found, changed, written, fitting}
 use Rattle.store.specs.Calls.{refuse, longKey, longValue, reversed, isNone, absent, noFreeSlot, entryOr, getIn, firstIn as firstEntryIn, nextIn, insertIn, modifyIn, deleteIn, ofKey, ofRange, witnessed, createAnswer, isEmptyAnswer, countAnswer, rootHashAnswer, getAnswer, firstEntryAnswer, nextEntryAnswer, insertAnswer, modifyAnswer, deleteAnswer, asHashTreeAnswer, keysAnswer, witnessAnswer, keysWithPrefixAnswer, keyRangeAnswer, valueRangeAnswer}
-use Rattle.store.specs.Table.{Row, when, order, applies, firstOf, firstIn, notSound, shorter, Table}
+use Rattle.store.specs.Table.{Row, when, applies, firstIn, notSound, shorter, Table}
 use Rattle.store.proofs.Decoding.{on-sound, on-unsound, sound-decodes}
 
 -- 1 comes first, and is given exactly for a store that is not sound

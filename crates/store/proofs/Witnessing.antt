@@ -1,27 +1,28 @@
 -- Every witness of a lawful model can be written, and its bytes rebuild to the root digest; and what a call puts into the output.
 -- Assumes nothing.
-use mathlib.Core.Path.{_≡_, refl, sym, ap, subst, _∙_}
-use mathlib.Core.Bool.{Bool, true, false, cond}
+use mathlib.Core.Path.{_≡_, refl, ap, _∙_}
 use mathlib.Core.List.{List, [], _∷_, _++_}
-use Prim.Native.Nat.{ℕ, zero, suc, _+_, _*_, _≤_, _<_, max}
+use Prim.Native.Nat.{ℕ, _≤_, _<_}
 use native.Mathlib.Omega.{arith}
-use lib.Dec.{ltb}
-use lib.ListN.{length, length-append, take, drop}
+use lib.ListN.{length, take, drop}
 use borrow.Author.Tests.{le-ltb, lt-ltb}
-use Rattle.key_order.specs.Order.{Key}
-use Rattle.hash_tree.specs.HashTree.{HashTree, Empty, Fork, Labeled, Leaf, Pruned, digest}
+use Rattle.hash_tree.specs.HashTree.{HashTree, Empty, Fork, Labeled, Leaf, Pruned}
 use Rattle.hash_tree.specs.Written as written
 use Rattle.hash_tree.specs.Written.{write, Lengths}
 use Rattle.hash_tree.specs.Whole as whole
 use Rattle.hash_tree.specs.Promises.{accepts}
 use Rattle.hash_tree.specs.DigestLaws.{forkHash-length, labeledHash-length, leafHash-length}
 use Rattle.llrb.specs.Tree.{Entry, Tree, nil, node, entries, size}
-use Rattle.llrb.specs.Digests.{dataDigest, subtreeDigest, rootHash}
+use Rattle.llrb.specs.Digests.{rootHash}
 use Rattle.llrb.proofs.Height.{height-20}
 use Rattle.witness_trees.specs.Reading.{depth}
-use Rattle.witness_trees.specs.Shown.{What, Hide, Label, Show, item, threeWayFork, shown}
+use Rattle.witness_trees.specs.Shown.{What, Hide, Label, Show, item, shown}
 use Rattle.witness_trees.proofs.Shown.{join-cases, node-cases, shown-nil, depth-shown, digest-shown}
-use Rattle.store.specs.Numbers.{Refusal, NotSound, Outcome, refused, done}
+use Rattle.witness_trees.specs.Witness.{keysOnly, values}
+use Rattle.witness_trees.specs.Rules.{keysOf, rangeRule, prefixRule}
+use Rattle.witness_trees.proofs.Calls.{as-hash-tree-is, keys-is, witness-is, keys-with-prefix-is, key-range-is, value-range-is}
+use Rattle.store.specs.Demand.{WitnessesRebuild}
+use Rattle.store.specs.Numbers.{NotSound, Outcome, refused, done}
 use Rattle.store.specs.Model.{Model}
 use Rattle.store.specs.Sound.{Short, Lawful, Represents}
 use Rattle.store.specs.Answers.{Written, fitting}
@@ -61,6 +62,19 @@ shown-rebuilds f {m} g =
     let few : size (m .tree) ≤ 1024 = omega (arith, live-and-free g, g .most) in
     let low : written.depth (shown f (m .tree)) ≤ 64 = omega (arith, same-depth (shown f (m .tree)), depth-shown f (m .tree), height-20 (tree-lawful g) few) in
     accepts (shown f (m .tree)) (shown-lengths f (m .tree) (g .short), low) ∙ ap whole.accepted (digest-shown f (m .tree))
+
+pub witnesses-rebuild : {m : Model} → Lawful m → WitnessesRebuild (m .tree)
+witnesses-rebuild {m} g =
+    let t = m .tree in
+    let ks = keysOf (entries t) in
+    record {
+      asHashTree = rw (as-hash-tree-is t) (shown-rebuilds (λ e. Show) g);
+      keys = rw (keys-is t) (shown-rebuilds (λ e. Label) g);
+      witness = λ key. rw (witness-is key t (g .ordered)) (shown-rebuilds (rangeRule key key ks values) g);
+      keysWithPrefix = λ prefix. rw (keys-with-prefix-is prefix t (g .ordered)) (shown-rebuilds (prefixRule prefix ks) g);
+      keyRange = λ first last o. rw (key-range-is first last t (g .ordered) o) (shown-rebuilds (rangeRule first last ks keysOnly) g);
+      valueRange = λ first last o. rw (value-range-is first last t (g .ordered) o) (shown-rebuilds (rangeRule first last ks values) g);
+    }
 
 -- ---- the output
 

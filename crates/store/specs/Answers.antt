@@ -1,7 +1,7 @@
 -- What a call answers, and the bytes that it leaves (document 01, "Numbers a call may answer"): with any number but 0 all bytes
 -- stay as found, other numbers are 0, a yes or no is no, and digests are 32 zero bytes.
 -- Assumes nothing: these are definitions.
-use mathlib.Core.Bool.{Bool, true, false, cond}
+use mathlib.Core.Bool.{Bool, false, cond}
 use mathlib.Core.List.{List, _++_}
 use Prim.Native.Nat.{ℕ}
 use lib.Dec.{ltb}
@@ -10,7 +10,7 @@ use Rattle.slots.specs.Layout.{keyAt, valueAt, zeros}
 use Rattle.llrb.specs.Tree.{Entry}
 use Rattle.hash_tree.specs.HashTree.{HashTree}
 use Rattle.hash_tree.specs.Written.{write}
-use Rattle.store.specs.Numbers.{Refusal, NoRoom, numberOf, Outcome, refused, done}
+use Rattle.store.specs.Numbers.{NoRoom, numberOf, Outcome, refused, done}
 use Rattle.store.specs.Model.{Model}
 use Rattle.store.specs.Encode.{encode}
 

@@ -2,8 +2,8 @@
 -- that a sound store holds, its refusals in the order 2, 3, 4, 7, 5, 6; then the call itself: 1 if the store is not sound, else that.
 -- `rebuild` and `hash` have no store; they stand in crates hash_tree and sha256.
 -- Assumes nothing: these are definitions.
-use mathlib.Core.Bool.{Bool, true, false, cond, not, _&&_, _||_}
-use mathlib.Core.List.{List, [], _∷_}
+use mathlib.Core.Bool.{Bool, true, false, not, _&&_, _||_}
+use mathlib.Core.List.{List}
 use mathlib.Core.Option.{Option, none, some}
 use Prim.Native.Nat.{ℕ}
 use lib.Dec.{ltb, eqb}
@@ -11,11 +11,11 @@ use lib.ListN.{length}
 use Rattle.key_order.specs.Order.{Key, cmp, pick}
 use Rattle.slots.specs.Layout.{storeLength}
 use Rattle.hash_tree.specs.HashTree.{HashTree}
-use Rattle.llrb.specs.Tree.{Value, Entry, Tree, nil, node, entries, size, get}
+use Rattle.llrb.specs.Tree.{Value, Entry, Tree, entries, size, get}
 use Rattle.llrb.specs.Digests.{rootHash}
 use Rattle.llrb.specs.Iterate.{headOf, firstAbove}
 use Rattle.witness_trees.specs.Witness.{asHashTree, keys, keyRange, valueRange, keysWithPrefix, witness}
-use Rattle.store.specs.Numbers.{Refusal, NotSound, LongKey, LongValue, Reversed, Full, NoRoom, Absent, BadCapacity, Outcome, refused, done}
+use Rattle.store.specs.Numbers.{Refusal, NotSound, LongKey, LongValue, Reversed, Full, Absent, BadCapacity, Outcome, refused, done}
 use Rattle.store.specs.Model.{Model, fresh, inserted, modified, deleted}
 use Rattle.store.specs.Decide.{onSound}
 use Rattle.store.specs.Answers.{Told, told, Counted, counted, Digested, digested, Found, found, Changed, changed, Written, written, fitting}

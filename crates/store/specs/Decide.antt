@@ -4,20 +4,19 @@
 use mathlib.Core.Path.{_≡_, refl, sym, ap, subst}
 use mathlib.Core.Bool.{Bool, true, false, true≢false}
 use mathlib.Core.List.{List, [], _∷_}
-use Prim.Native.Nat.{ℕ, zero, suc, _≤_}
+use Prim.Native.Nat.{ℕ, zero, suc}
 use native.Mathlib.Omega.{arith}
 use lib.ListN.{length}
 use Rattle.key_order.specs.declared.Ordering.{Ordering}
 use Rattle.key_order.specs.declared.Ordering.the-variants.{Less, Equal, Greater}
 use Rattle.key_order.specs.Order.{Key, cmp}
 use Rattle.slots.specs.declared.Header.{Header}
-use Rattle.slots.specs.Layout.{storeLength, header, Slot, slot, digestOf, nodeSlot, freeSlot, zeros}
+use Rattle.slots.specs.Layout.{storeLength, header, Slot}
 use Rattle.llrb.specs.Tree.{Entry, Tree, nil, node, isRed, entries}
 use Rattle.llrb.specs.Sorted.{Above, Sorted}
 use Rattle.llrb.specs.Shape.{RedsApart, LeansLeft, Blacks, SameBlacks}
-use Rattle.llrb.specs.Digests.{subtreeDigest}
 use Rattle.store.specs.Counts.{numbersTo}
-use Rattle.store.specs.Model.{Model, named, root, head}
+use Rattle.store.specs.Model.{Model, named, root}
 use Rattle.store.specs.Sound.{headerOf, Nodes, Digests, Chain, Laid, Short, Lawful, Represents}
 use Rattle.store.specs.Decode.{decode}
 use Rattle.store.specs.Deciding.{told, _&_, three, nat?, le?, bytes?, bool?}

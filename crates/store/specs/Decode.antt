@@ -3,8 +3,8 @@
 -- Assumes nothing: these are definitions.
 use mathlib.Core.List.{List, [], _∷_}
 use Prim.Native.Nat.{ℕ, zero, suc}
-use Rattle.slots.specs.Layout.{header, Slot, slot, keyOf, valueOf}
-use Rattle.llrb.specs.Tree.{Entry, Tree, nil, node}
+use Rattle.slots.specs.Layout.{header, slot, keyOf, valueOf}
+use Rattle.llrb.specs.Tree.{Tree, nil, node}
 use Rattle.store.specs.Model.{Model}
 
 unfoldable pub treeAt : (fuel : ℕ) → List ℕ → ℕ → Tree

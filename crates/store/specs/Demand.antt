@@ -3,8 +3,8 @@
 use mathlib.Core.Path.{_≡_}
 use mathlib.Core.Bool.{false}
 use mathlib.Core.Logic.{_≢_}
-use mathlib.Core.List.{List, [], _∷_}
-use mathlib.Core.Option.{Option, none, some}
+use mathlib.Core.List.{List, []}
+use mathlib.Core.Option.{none, some}
 use Prim.Native.Nat.{ℕ, _+_, _≤_}
 use lib.ListN.{length, take, drop}
 use Rattle.key_order.specs.Order.{Key}
@@ -14,6 +14,7 @@ use Rattle.hash_tree.specs.Whole as whole
 use Rattle.slots.specs.Layout.{header, slot, digestOf, part, zeros}
 use Rattle.slots.specs.Setters.{withValue}
 use Rattle.llrb.specs.Tree.{Value, Entry, Tree, entries}
+use Rattle.llrb.specs.Digests.{rootHash}
 use Rattle.llrb.specs.Tree as tree
 use Rattle.llrb.specs.Map.{Pair, pairs, find, Out}
 use Rattle.llrb.specs.Path.{searchPath}
@@ -22,9 +23,9 @@ use Rattle.witness_trees.specs.Witness as paper
 use Rattle.witness_trees.specs.Rules.{Le, keysIn, filter, wanted}
 use Rattle.store.specs.Sound.{Digests, Sound}
 use Rattle.store.specs.Decode.{decode}
-use Rattle.store.specs.Answers.{Told, Counted, Digested, Found, Changed, Written}
+use Rattle.store.specs.Answers.{Found, Changed, Written}
 use Rattle.store.specs.Calls.{createAnswer, isEmptyAnswer, countAnswer, rootHashAnswer, getAnswer, firstEntryAnswer, nextEntryAnswer, insertAnswer, modifyAnswer, deleteAnswer, asHashTreeAnswer, keysAnswer, witnessAnswer, keysWithPrefixAnswer, keyRangeAnswer, valueRangeAnswer}
-use Rattle.store.specs.History.{Edit, storeAfter, accepted, lastValue, mapAfter, newKeys, deletes}
+use Rattle.store.specs.History.{Edit, accepted, lastValue, mapAfter, newKeys, deletes}
 
 -- ---- demand 1: any number but 0 leaves all lent bytes as found; other numbers are 0, a yes or no is no, digests are 32 zero bytes
 
@@ -100,6 +101,7 @@ pub record Demand3 (capacity : ℕ) (s : List ℕ) (acc : List Edit) : Type 0 wh
   -- live: accepted inserts of absent keys less accepted deletes; live plus free is always the capacity
   pub live : header s .live + deletes acc ≡ newKeys acc
   pub free : header s .live + length (decode s .free) ≡ capacity
+  pub counted : countAnswer s ≡ record { number = 0; count = header s .live }
   -- a new value for a present key, by insert and by modify
   pub insert : (key : Key) (value old : Value) → lastValue key acc ≡ some old → length value ≤ 64
       → (insertAnswer key value s .number ≡ 0) × Replaced key value s (insertAnswer key value s .store)
@@ -108,3 +110,12 @@ pub record Demand3 (capacity : ℕ) (s : List ℕ) (acc : List Edit) : Type 0 wh
   -- for lawful keys, first not above last and room enough
   pub keyRange : (first last : Key) (out : List ℕ) → length first ≤ 48 → length last ≤ 48 → Le first last
       → length (write (paper.keyRange first last (decode s .tree))) ≤ length out → KeyRangeShown s out (mapAfter acc) first last (keyRangeAnswer first last s out)
+
+-- Every witness of the tree t rebuilds to its root digest.
+pub record WitnessesRebuild (t : Tree) : Type 0 where
+  pub asHashTree : whole.rebuilt (write (paper.asHashTree t)) ≡ whole.accepted (rootHash t)
+  pub keys : whole.rebuilt (write (paper.keys t)) ≡ whole.accepted (rootHash t)
+  pub witness : (key : Key) → whole.rebuilt (write (paper.witness key t)) ≡ whole.accepted (rootHash t)
+  pub keysWithPrefix : (prefix : Key) → whole.rebuilt (write (paper.keysWithPrefix prefix t)) ≡ whole.accepted (rootHash t)
+  pub keyRange : (first last : Key) → Le first last → whole.rebuilt (write (paper.keyRange first last t)) ≡ whole.accepted (rootHash t)
+  pub valueRange : (first last : Key) → Le first last → whole.rebuilt (write (paper.valueRange first last t)) ≡ whole.accepted (rootHash t)

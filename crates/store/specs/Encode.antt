@@ -1,13 +1,13 @@
 -- The bytes of a model: each slot of the store is a node's, or a free one.
 -- Assumes nothing: these are definitions.
-use mathlib.Core.Bool.{Bool, true, false, cond}
+use mathlib.Core.Bool.{cond}
 use mathlib.Core.List.{List, [], _∷_}
 use mathlib.Core.Option.{Option, none, some}
 use Prim.Native.Nat.{ℕ}
 use lib.Dec.{eqb}
 use Rattle.slots.specs.Layout.{Slot, nodeSlot, freeSlot, zeros}
 use Rattle.slots.specs.Setters.{bytesOf}
-use Rattle.llrb.specs.Tree.{Entry, Tree, nil, node}
+use Rattle.llrb.specs.Tree.{Tree, nil, node}
 use Rattle.llrb.specs.Digests.{subtreeDigest}
 use Rattle.llrb.specs.Path.{subtreeAt}
 use Rattle.store.specs.Model.{Model, root, head}

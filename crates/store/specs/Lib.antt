@@ -1,8 +1,10 @@
--- What a store means, and what each public call answers.
+-- What a store means, and what each public call answers. Read Calls first: the calls as functions of the bytes; then Sound and Model,
+-- which say what a store holds; Table and Demand, which say what is proved of the calls; History, which says what a history is.
 pub mod Numbers
 pub mod Counts
 pub mod Model
 pub mod Sound
+pub mod Words
 pub mod Encode
 pub mod Decode
 pub mod Deciding
@@ -10,7 +12,6 @@ pub mod Counting
 pub mod Decide
 pub mod Answers
 pub mod Calls
+pub mod Table
 pub mod History
 pub mod Demand
-pub mod Table
-pub mod Words

@@ -6,7 +6,7 @@ use mathlib.Core.List.{List, [], _∷_}
 use Prim.Native.Nat.{ℕ, _≤_}
 use lib.ListN.{length}
 use Rattle.slots.specs.declared.Header.{Header}
-use Rattle.slots.specs.Layout.{storeLength, header, Slot, slot, digestOf, nodeSlot, freeSlot, zeros}
+use Rattle.slots.specs.Layout.{storeLength, header, slot, digestOf, nodeSlot, freeSlot, zeros}
 use Rattle.llrb.specs.Tree.{Entry, Tree, nil, node, entries, size}
 use Rattle.llrb.specs.Sorted.{Sorted}
 use Rattle.llrb.specs.Shape.{RootBlack, RedsApart, LeansLeft, SameBlacks}

@@ -11,13 +11,12 @@ use Rattle.key_order.specs.Order.{Key}
 use Rattle.slots.specs.Layout.{storeLength}
 use Rattle.hash_tree.specs.HashTree.{HashTree}
 use Rattle.hash_tree.specs.Written.{write}
-use Rattle.llrb.specs.Tree.{Value, Tree, entries}
+use Rattle.llrb.specs.Tree.{Value, entries}
 use Rattle.llrb.specs.Iterate.{headOf, firstAbove}
 use Rattle.witness_trees.specs.Witness.{asHashTree, keys, keyRange, valueRange, keysWithPrefix, witness}
 use Rattle.store.specs.Numbers.{Refusal, NotSound, LongKey, LongValue, Reversed, Full, NoRoom, Absent, BadCapacity, numberOf}
 use Rattle.store.specs.Decode.{decode}
 use Rattle.store.specs.Decide.{onSound}
-use Rattle.store.specs.Answers.{Told, Counted, Digested, Found, Changed, Written}
 use Rattle.store.specs.Calls.{longKey, longValue, reversed, isNone, absent, noFreeSlot, createAnswer, isEmptyAnswer, countAnswer, rootHashAnswer, getAnswer, firstEntryAnswer, nextEntryAnswer, insertAnswer, modifyAnswer, deleteAnswer, asHashTreeAnswer, keysAnswer, witnessAnswer, keysWithPrefixAnswer, keyRangeAnswer, valueRangeAnswer}
 
 -- a refusal, and whether what it is given for holds

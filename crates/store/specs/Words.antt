@@ -6,7 +6,7 @@ use mathlib.Core.List.{List}
 use Prim.Native.Nat.{ℕ, suc, _+_, _*_, _^_, _≤_}
 use lib.ListN.{length}
 use Rattle.slots.specs.Layout.{header, slot}
-use Rattle.llrb.specs.Tree.{Tree, size}
+use Rattle.llrb.specs.Tree.{size}
 use Rattle.llrb.specs.Shape.{height}
 use Rattle.store.specs.Counts.{occurs}
 use Rattle.store.specs.Model.{Model, slotsOf}

@@ -1,0 +1,107 @@
+-- A tree that lies in a store: it is the only one below its slot, its top is an entry's slot, and its children lie there too.
+-- Assumes nothing.
+use mathlib.Core.Path.{_≡_, refl, sym, ap, subst, _∙_}
+use mathlib.Core.Bool.{Bool}
+use mathlib.Core.List.{List}
+use Prim.Native.Nat.{ℕ, zero, suc, _+_, _≤_, _<_}
+use native.Mathlib.Omega.{arith}
+use native.Mathlib.Nat.{not-suc-le-zero}
+use lib.ListN.{length}
+use Rattle.slots.specs.Layout.{HasSlot, Slot, slot, nodeSlot, keyOf, valueOf}
+use Rattle.slots.proofs.Writing.{key-fits, value-fits, node-key, node-value}
+use Rattle.llrb.specs.Tree.{Entry, Tree, nil, node, entries, size}
+use Rattle.llrb.proofs.Height.{size-node}
+use Rattle.store.specs.Model.{Model, slotsOf, root}
+use Rattle.store.specs.Sound.{Nodes, Represents}
+use Rattle.store.specs.Counts.{occurs}
+use Rattle.store.specs.Decode.{treeAt}
+use Rattle.slots.specs.Layout.{header}
+use Rattle.slots.specs.declared.Header.{Header}
+use Rattle.store.proofs.Trees.{slots-node}
+use Rattle.store.proofs.Decoding.{live-and-free}
+use Rattle.store.proofs.Seats.{tree-within, top-occurs}
+use Rattle.search.specs.Search.{Each, Lies, HasTree, entriesBelow, EntryAt}
+
+-- ---- the parts
+
+module _ {s : List ℕ} {h : ℕ} {c : Bool} {e : Entry} {l r : Tree} (a : Lies s h (node c e l r)) where
+  pub slot-top : slot s h ≡ nodeSlot c (e .key) (e .value) (root l) (root r)
+  slot-top = ap (slot s) (sym (a .top)) ∙ a .nodes .0
+
+  pub top-in : HasSlot (length s) h
+  top-in = subst (HasSlot (length s)) (a .top) (a .within .0)
+
+  pub top-key : keyOf (slot s h) ≡ e .key
+  top-key = ap keyOf slot-top ∙ node-key c (e .key) (e .value) (root l) (root r)
+
+  pub top-entry : EntryAt s h
+  top-entry =
+      let k = key-fits c (e .key) (e .value) (root l) (root r) s h top-in slot-top in
+      let v = value-fits c (e .key) (e .value) (root l) (root r) s h top-in slot-top in
+      record { inside = top-in; key = rw slot-top k; value = rw slot-top v }
+
+  pub lies-left : {q : ℕ} → q ≡ slot s h .left → Lies s q l
+  lies-left w =
+      record { top = sym (w ∙ ap (λ (z : Slot). z .left) slot-top); nodes = a .nodes .1; within = a .within .1; few = omega (arith, a .few, size-node c e l r) }
+
+  pub lies-right : {q : ℕ} → q ≡ slot s h .right → Lies s q r
+  lies-right w =
+      record { top = sym (w ∙ ap (λ (z : Slot). z .right) slot-top); nodes = a .nodes .2; within = a .within .2; few = omega (arith, a .few, size-node c e l r) }
+
+-- ---- the links lead to it
+
+open-tree : (n : ℕ) (s : List ℕ) (x : ℕ) → 1 ≤ x
+    → treeAt (suc n) s x
+    ≡ node (slot s x .red) (record { slot = x; key = keyOf (slot s x); value = valueOf (slot s x) }) (treeAt n s (slot s x .left)) (treeAt n s (slot s x .right))
+unfolding treeAt
+open-tree n s zero p = absurd (not-suc-le-zero p)
+open-tree n s (suc x) p = refl
+
+tree-nil : (n : ℕ) (s : List ℕ) → treeAt n s 0 ≡ nil
+unfolding treeAt
+tree-nil zero s = refl
+tree-nil (suc n) s = refl
+
+tree-at : (n : ℕ) (s : List ℕ) (h : ℕ) (t : Tree) → Lies s h t → size t ≤ n → treeAt n s h ≡ t
+tree-at n s h nil a p = ap (treeAt n s) (sym (a .top)) ∙ tree-nil n s
+tree-at zero s h (node c e l r) a p = absurd (omega (arith, size-node c e l r))
+tree-at (suc n) s h (node c e l r) a p =
+    let v = slot-top a in
+    let el = tree-at n s (slot s h .left) l (lies-left a refl) (omega (arith, size-node c e l r)) in
+    let er = tree-at n s (slot s h .right) r (lies-right a refl) (omega (arith, size-node c e l r)) in
+    let ec = ap (λ (z : Slot). z .red) v in
+    let ev : valueOf (slot s h) ≡ e .value = ap valueOf v ∙ node-value c (e .key) (e .value) (root l) (root r) in
+    open-tree n s h (top-in a .low) ∙ (λ i. node (ec i) (record { slot = sym (a .top) i; key = top-key a i; value = ev i }) (el i) (er i))
+
+pub one-tree : {s : List ℕ} {h : ℕ} (t u : Tree) → Lies s h t → Lies s h u → t ≡ u
+one-tree {s} {h} t u a b = sym (tree-at 2047 s h t a (a .few)) ∙ tree-at 2047 s h u b (b .few)
+
+pub below-lies : (s : List ℕ) (h : ℕ) (t : Tree) → Lies s h t → entriesBelow s h ≡ size t
+unfolding entriesBelow
+below-lies s h t a = ap size (tree-at 2047 s h t a (a .few))
+
+-- ---- a sound store's tree
+
+module _ {s : List ℕ} {m : Model} (a : Represents s m) where
+  slot-within : (x : ℕ) → 1 ≤ occurs x (slotsOf (m .tree)) → HasSlot (length s) x
+  slot-within x p =
+      let w = tree-within (a .lawful) x p in
+      record { low = w .0; high = omega (arith, w, a .lawful .most); fits = omega (arith, w, a .laid .len) }
+
+  all-within : (t : Tree) → ((x : ℕ) → 1 ≤ occurs x (slotsOf t) → 1 ≤ occurs x (slotsOf (m .tree))) → Each (λ e. HasSlot (length s) (e .slot)) t
+  all-within nil f = tt
+  all-within (node c e l r) f =
+      (
+        slot-within (e .slot) (f (e .slot) (top-occurs c e l r)),
+        all-within l (λ x p. f x (omega (arith, slots-node x c e l r))),
+        all-within r (λ x p. f x (omega (arith, slots-node x c e l r))),
+      )
+
+  pub represents-lies : Lies s (header s .root) (m .tree)
+  represents-lies =
+      record {
+        top = sym (ap (λ (h : Header). h .root) (a .laid .header));
+        nodes = a .laid .nodes;
+        within = all-within (m .tree) (λ x p. p);
+        few = omega (arith, live-and-free (a .lawful), a .lawful .most);
+      }

@@ -1,0 +1,2 @@
+-- Searches over the slots of a store.
+pub mod Search

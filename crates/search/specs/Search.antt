@@ -1,0 +1,76 @@
+-- What it is that a store's bytes hold a tree below a slot, as one who only reads has to know it; and what searches answer.
+-- Where a bit lies is said by crate slots, what a node's slot is by crate store, what is searched for by crates llrb and witness_trees.
+-- Assumes nothing: these are definitions.
+use mathlib.Core.Path.{_≡_}
+use mathlib.Core.List.{List, []}
+use mathlib.Core.Option.{Option, none, some}
+use Prim.Native.Nat.{ℕ, _≤_}
+use lib.ListN.{length}
+use Rattle.slots.specs.Layout.{HasSlot, slot}
+use Rattle.llrb.specs.Tree.{Entry, Tree, nil, node, size}
+use Rattle.witness_trees.specs.Witness as bounds
+use Rattle.store.specs.Numbers.{Absent, numberOf}
+use Rattle.store.specs.Model.{root}
+use Rattle.store.specs.Sound.{Nodes}
+use Rattle.store.specs.Decode.{treeAt}
+use Rattle.store.specs.Answers as answers
+use Rattle.search.specs.declared.Found.{Found}
+use Rattle.search.specs.declared.Found.the-variants as found
+use Rattle.search.specs.declared.KeyBound.{KeyBound}
+use Rattle.search.specs.declared.KeyBound.the-variants.{Exact, Neighbor}
+use Rattle.search.specs.declared.Bound.{Bound}
+use Rattle.search.specs.declared.Bound.the-variants as bound
+use Rattle.search.specs.declared.Place.{Place}
+use Rattle.search.specs.declared.Place.the-variants as place
+
+-- ---- a tree in the bytes
+
+-- P of each entry
+abbrev pub Each : (Entry → Type 0) → Tree → Type 0
+Each P nil = Unit {0}
+Each P (node c e l r) = P e × Each P l × Each P r
+
+-- the bytes s hold the tree t with its top at slot h, each of its slots within the store; a store has fewer than 2,048 slots
+pub record Lies (s : List ℕ) (h : ℕ) (t : Tree) : Type 0 where
+  pub top : root t ≡ h
+  pub nodes : Nodes s t
+  pub within : Each (λ e. HasSlot (length s) (e .slot)) t
+  pub few : size t ≤ 2047
+
+abbrev pub HasTree : List ℕ → ℕ → Type 0
+HasTree s h = (t : Tree) × Lies s h t
+
+-- the number that falls: the entries below slot h, found by the links
+unfoldable pub entriesBelow : List ℕ → ℕ → ℕ
+entriesBelow s h = size (treeAt 2047 s h)
+
+-- ---- answers: an entry or a bound by its slot, or nothing
+
+abbrev pub foundSlot : Option Entry → Found
+foundSlot none = found.Nothing
+foundSlot (some e) = found.At (e .slot)
+
+abbrev pub keyBoundSlot : bounds.KeyBound → KeyBound
+keyBoundSlot (bounds.Exact e) = Exact (e .slot)
+keyBoundSlot (bounds.Neighbor e) = Neighbor (e .slot)
+
+abbrev pub boundSlot : Option bounds.KeyBound → Bound
+boundSlot none = bound.Nothing
+boundSlot (some b) = bound.At (keyBoundSlot b)
+
+-- ---- where key and value lie
+
+-- slot i is in the store, and its lengths are an entry's
+pub record EntryAt (s : List ℕ) (i : ℕ) : Type 0 where
+  pub inside : HasSlot (length s) i
+  pub key : slot s i .keyLength ≤ 48
+  pub value : slot s i .valueLength ≤ 64
+
+abbrev pub FoundIn : List ℕ → Found → Type 0
+FoundIn s found.Nothing = Unit {0}
+FoundIn s (found.At i) = HasSlot (length s) i
+
+-- the number and the values that a place stands for: nothing is 7
+abbrev pub answerOf : Place → answers.Found
+answerOf place.Nothing = record { number = numberOf Absent; keyOffset = 0; keyLength = 0; valueOffset = 0; valueLength = 0 }
+answerOf (place.At k n v m) = record { number = 0; keyOffset = k; keyLength = n; valueOffset = v; valueLength = m }
