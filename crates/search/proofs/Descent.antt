@@ -55,40 +55,35 @@ module _ {B D R : Type 0} {F : B → Tree → R} {shows : B → D} {z : B} {s : 
 
     pub stops : {O : Type 0} {o : O} (g : R → O) → ((b : B) (c : Bool) (e : Entry) (l r : Tree) → e .slot ≡ a → e .key ≡ keyOf (slot s a) → o ≡ g (F b (node c e l r)))
         → (t : Tree) → Lies s h t → o ≡ g (F z t)
-    stops g f t w = let n = met in f (p .best) (n .red) (n .top) (n .lower) (n .upper) (n .lies .top) (sym (top-key (n .lies))) ∙ ap g (n .same t w)
+    stops g f t w = f (p .best) (met .red) (met .top) (met .lower) (met .upper) (met .lies .top) (sym (top-key (met .lies))) ∙ ap g (met .same t w)
+
+    -- below a child v
+    less : {q : ℕ} (v : Tree) → Lies s q v → size v < size (node (met .red) (met .top) (met .lower) (met .upper)) → entriesBelow s q < entriesBelow s a
+    less {q} v w k = omega (arith, below-lies s a (node (met .red) (met .top) (met .lower) (met .upper)) (met .lies), below-lies s q v w)
+
+    go : {q : ℕ} (v : Tree) → Lies s q v → {d′ : D} (f : B → Entry → B) → ((b : B) (e : Entry) → d ≡ shows b → e .slot ≡ a → d′ ≡ shows (f b e))
+        → F (p .best) (node (met .red) (met .top) (met .lower) (met .upper)) ≡ F (f (p .best) (met .top)) v → Along F shows z s h q d′
+    go v w f k g =
+        record {
+          rest = v;
+          lies = w;
+          best = f (p .best) (met .top);
+          shown = k (p .best) (met .top) (p .shown) (met .lies .top);
+          same = λ t u. sym g ∙ met .same t u;
+        }
 
     module _ {q : ℕ} (e : q ≡ slot s a .left) where
       pub less-left : entriesBelow s q < entriesBelow s a
-      less-left =
-          let n = met in
-          omega (arith, below-lies s a (node (n .red) (n .top) (n .lower) (n .upper)) (n .lies), below-lies s q (n .lower) (lies-left (n .lies) e), size-node (n .red) (n .top) (n .lower) (n .upper))
+      less-left = less (met .lower) (lies-left (met .lies) e) (omega (arith, size-node (met .red) (met .top) (met .lower) (met .upper)))
 
       pub go-left : {d′ : D} (f : B → Entry → B) → ((b : B) (e : Entry) → d ≡ shows b → e .slot ≡ a → d′ ≡ shows (f b e))
           → ((b : B) (c : Bool) (e : Entry) (l r : Tree) → e .key ≡ keyOf (slot s a) → F b (node c e l r) ≡ F (f b e) l) → Along F shows z s h q d′
-      go-left f k g =
-          let n = met in
-          record {
-            rest = n .lower;
-            lies = lies-left (n .lies) e;
-            best = f (p .best) (n .top);
-            shown = k (p .best) (n .top) (p .shown) (n .lies .top);
-            same = λ t w. sym (g (p .best) (n .red) (n .top) (n .lower) (n .upper) (sym (top-key (n .lies)))) ∙ n .same t w;
-          }
+      go-left f k g = go (met .lower) (lies-left (met .lies) e) f k (g (p .best) (met .red) (met .top) (met .lower) (met .upper) (sym (top-key (met .lies))))
 
     module _ {q : ℕ} (e : q ≡ slot s a .right) where
       pub less-right : entriesBelow s q < entriesBelow s a
-      less-right =
-          let n = met in
-          omega (arith, below-lies s a (node (n .red) (n .top) (n .lower) (n .upper)) (n .lies), below-lies s q (n .upper) (lies-right (n .lies) e), size-node (n .red) (n .top) (n .lower) (n .upper))
+      less-right = less (met .upper) (lies-right (met .lies) e) (omega (arith, size-node (met .red) (met .top) (met .lower) (met .upper)))
 
       pub go-right : {d′ : D} (f : B → Entry → B) → ((b : B) (e : Entry) → d ≡ shows b → e .slot ≡ a → d′ ≡ shows (f b e))
           → ((b : B) (c : Bool) (e : Entry) (l r : Tree) → e .key ≡ keyOf (slot s a) → F b (node c e l r) ≡ F (f b e) r) → Along F shows z s h q d′
-      go-right f k g =
-          let n = met in
-          record {
-            rest = n .upper;
-            lies = lies-right (n .lies) e;
-            best = f (p .best) (n .top);
-            shown = k (p .best) (n .top) (p .shown) (n .lies .top);
-            same = λ t w. sym (g (p .best) (n .red) (n .top) (n .lower) (n .upper) (sym (top-key (n .lies)))) ∙ n .same t w;
-          }
+      go-right f k g = go (met .upper) (lies-right (met .lies) e) f k (g (p .best) (met .red) (met .top) (met .lower) (met .upper) (sym (top-key (met .lies))))

@@ -2,3 +2,4 @@
 pub mod Lying
 pub mod Descent
 pub mod Searches
+pub mod Finding

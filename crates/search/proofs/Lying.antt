@@ -7,7 +7,8 @@ use Prim.Native.Nat.{ℕ, zero, suc, _+_, _≤_, _<_}
 use native.Mathlib.Omega.{arith}
 use native.Mathlib.Nat.{not-suc-le-zero}
 use lib.ListN.{length}
-use Rattle.slots.specs.Layout.{HasSlot, Slot, slot, nodeSlot, keyOf, valueOf}
+use Rattle.slots.specs.declared.Header.{Header}
+use Rattle.slots.specs.Layout.{HasSlot, header, Slot, slot, nodeSlot, keyOf, valueOf}
 use Rattle.slots.proofs.Writing.{key-fits, value-fits, node-key, node-value}
 use Rattle.llrb.specs.Tree.{Entry, Tree, nil, node, entries, size}
 use Rattle.llrb.proofs.Height.{size-node}
@@ -15,30 +16,47 @@ use Rattle.store.specs.Model.{Model, slotsOf, root}
 use Rattle.store.specs.Sound.{Nodes, Represents}
 use Rattle.store.specs.Counts.{occurs}
 use Rattle.store.specs.Decode.{treeAt}
-use Rattle.slots.specs.Layout.{header}
-use Rattle.slots.specs.declared.Header.{Header}
 use Rattle.store.proofs.Trees.{slots-node}
 use Rattle.store.proofs.Decoding.{live-and-free}
 use Rattle.store.proofs.Seats.{tree-within, top-occurs}
-use Rattle.search.specs.Search.{Each, Lies, HasTree, entriesBelow, EntryAt}
+use Rattle.search.specs.Search.{Each, Lies, entriesBelow, EntryAt, Stored}
 
 -- ---- the parts
+
+stored : {s : List ℕ} {c : Bool} (e : Entry) {l r : ℕ} → HasSlot (length s) (e .slot) → slot s (e .slot) ≡ nodeSlot c (e .key) (e .value) l r → Stored s e
+stored {s} {c} e {l} {r} w v =
+    let k = key-fits c (e .key) (e .value) l r s (e .slot) w v in
+    let n = value-fits c (e .key) (e .value) l r s (e .slot) w v in
+    record {
+      there = record { inside = w; key = rw v k; value = rw v n };
+      keyLength = ap (λ (z : Slot). z .keyLength) v;
+      valueLength = ap (λ (z : Slot). z .valueLength) v;
+      key = ap keyOf v ∙ node-key c (e .key) (e .value) l r;
+      value = ap valueOf v ∙ node-value c (e .key) (e .value) l r;
+    }
+
+pub all-stored : {s : List ℕ} {h : ℕ} (t : Tree) → Lies s h t → Each (Stored s) t
+all-stored {s} t a = go t (a .nodes) (a .within)
+  where
+    go : (t : Tree) → Nodes s t → Each (λ e. HasSlot (length s) (e .slot)) t → Each (Stored s) t
+    go nil n w = tt
+    go (node c e l r) n w = (stored e (w .0) (n .0), go l (n .1) (w .1), go r (n .2) (w .2))
 
 module _ {s : List ℕ} {h : ℕ} {c : Bool} {e : Entry} {l r : Tree} (a : Lies s h (node c e l r)) where
   pub slot-top : slot s h ≡ nodeSlot c (e .key) (e .value) (root l) (root r)
   slot-top = ap (slot s) (sym (a .top)) ∙ a .nodes .0
 
-  pub top-in : HasSlot (length s) h
-  top-in = subst (HasSlot (length s)) (a .top) (a .within .0)
-
-  pub top-key : keyOf (slot s h) ≡ e .key
-  top-key = ap keyOf slot-top ∙ node-key c (e .key) (e .value) (root l) (root r)
+  top-stored : Stored s e
+  top-stored = stored e (a .within .0) (a .nodes .0)
 
   pub top-entry : EntryAt s h
-  top-entry =
-      let k = key-fits c (e .key) (e .value) (root l) (root r) s h top-in slot-top in
-      let v = value-fits c (e .key) (e .value) (root l) (root r) s h top-in slot-top in
-      record { inside = top-in; key = rw slot-top k; value = rw slot-top v }
+  top-entry = subst (EntryAt s) (a .top) (top-stored .there)
+
+  pub top-in : HasSlot (length s) h
+  top-in = top-entry .inside
+
+  pub top-key : keyOf (slot s h) ≡ e .key
+  top-key = ap (λ (x : ℕ). keyOf (slot s x)) (sym (a .top)) ∙ top-stored .key
 
   pub lies-left : {q : ℕ} → q ≡ slot s h .left → Lies s q l
   lies-left w =
@@ -90,12 +108,11 @@ module _ {s : List ℕ} {m : Model} (a : Represents s m) where
 
   all-within : (t : Tree) → ((x : ℕ) → 1 ≤ occurs x (slotsOf t) → 1 ≤ occurs x (slotsOf (m .tree))) → Each (λ e. HasSlot (length s) (e .slot)) t
   all-within nil f = tt
-  all-within (node c e l r) f =
-      (
-        slot-within (e .slot) (f (e .slot) (top-occurs c e l r)),
-        all-within l (λ x p. f x (omega (arith, slots-node x c e l r))),
-        all-within r (λ x p. f x (omega (arith, slots-node x c e l r))),
-      )
+  all-within (node c e l r) f = (
+    slot-within (e .slot) (f (e .slot) (top-occurs c e l r)),
+    all-within l (λ x p. f x (omega (arith, slots-node x c e l r))),
+    all-within r (λ x p. f x (omega (arith, slots-node x c e l r))),
+  )
 
   pub represents-lies : Lies s (header s .root) (m .tree)
   represents-lies =

@@ -29,6 +29,7 @@ use Rattle.search.specs.declared.Bound.the-variants as bound
 use Rattle.search.specs.Search.{Lies, foundSlot, boundSlot}
 use Rattle.search.proofs.Descent.{Along, ends, stops, go-left, go-right}
 
+-- a bound or an entry, and nothing after it
 or-none : (b : Option bounds.KeyBound) → or b none ≡ b
 or-none none = refl
 or-none (some b) = refl
@@ -37,11 +38,15 @@ orEntry-none : (b : Option Entry) → orEntry b none ≡ b
 orEntry-none none = refl
 orEntry-none (some b) = refl
 
+-- what is carried on: the entry here as a neighbour, or what was carried
 abbrev neighbor : Option bounds.KeyBound → Entry → Option bounds.KeyBound
 neighbor b e = some (bounds.Neighbor e)
 
 abbrev keep : {B : Type 0} → B → Entry → B
 keep b e = b
+
+neighbor-here : {best : Bound} {a : ℕ} (b : Option bounds.KeyBound) (e : Entry) → best ≡ boundSlot b → e .slot ≡ a → bound.At (Neighbor a) ≡ boundSlot (neighbor b e)
+neighbor-here b e x y = ap (λ (i : ℕ). bound.At (Neighbor i)) (sym y)
 
 -- the key of the node, compared
 told : (k : Key) {m n : Key} → n ≡ m → {o v : Ordering} → o ≡ cmp n k → o ≡ v → (e : Entry) → e .key ≡ m → cmp (e .key) k ≡ v
@@ -91,6 +96,15 @@ module _ {s : List ℕ} {h a : ℕ} (k : Key) (p : AtGet s h k a) where
 abbrev AtBound : (Key → Option bounds.KeyBound → Tree → Option bounds.KeyBound) → List ℕ → ℕ → Key → Bound → ℕ → Type 0
 AtBound F s h k best a = Along (F k) boundSlot none s h a best
 
+low-all : (k : Key) (t : Tree) → lowLoop k none t ≡ lowerBound k t
+low-all k t = low-loop k none t ∙ or-none (lowerBound k t)
+
+high-all : (k : Key) (t : Tree) → highLoop k none t ≡ upperBound k t
+high-all k t = high-loop k none t ∙ or-none (upperBound k t)
+
+past-all : (k : Key) (t : Tree) → pastLoop k none t ≡ rightPrefixNeighbor k t
+past-all k t = past-loop k none t ∙ or-none (rightPrefixNeighbor k t)
+
 abbrev pub AtLow : List ℕ → ℕ → Key → Bound → ℕ → Type 0
 AtLow = AtBound lowLoop
 
@@ -103,18 +117,18 @@ AtPast = AtBound pastLoop
 module _ {s : List ℕ} {h a : ℕ} (k : Key) {best : Bound} (p : AtLow s h k best a) where
   pub low-ends : a ≡ 0 → (t : Tree) → Lies s h t → best ≡ boundSlot (lowerBound k t)
   unfolding lowLoop
-  low-ends e t w = ends p e boundSlot (λ b x. x) t w ∙ ap boundSlot (low-loop k none t ∙ or-none (lowerBound k t))
+  low-ends e t w = ends p e boundSlot (λ b x. x) t w ∙ ap boundSlot (low-all k t)
 
   module _ (ne : a ≡ 0 → ⊥) {n : Key} (en : n ≡ keyOf (slot s a)) {o : Ordering} (eo : o ≡ cmp n k) where
     pub low-right : o ≡ Less → {j : ℕ} → j ≡ slot s a .right → AtLow s h k (bound.At (Neighbor a)) j
     unfolding lowLoop
-    low-right q w = go-right p ne w neighbor (λ b e x y. ap (λ (i : ℕ). bound.At (Neighbor i)) (sym y)) (λ b c e l r w. rw (told k en eo q e w))
+    low-right q w = go-right p ne w neighbor neighbor-here (λ b c e l r w. rw (told k en eo q e w))
 
     pub low-stops : o ≡ Equal → (t : Tree) → Lies s h t → bound.At (Exact a) ≡ boundSlot (lowerBound k t)
     unfolding lowLoop
     low-stops q t w =
         stops p ne boundSlot (λ b c e l r i w. rw (told k en eo q e w) (ap (λ (j : ℕ). bound.At (Exact j)) (sym i))) t w
-        ∙ ap boundSlot (low-loop k none t ∙ or-none (lowerBound k t))
+        ∙ ap boundSlot (low-all k t)
 
     pub low-left : o ≡ Greater → {j : ℕ} → j ≡ slot s a .left → AtLow s h k best j
     unfolding lowLoop
@@ -123,7 +137,7 @@ module _ {s : List ℕ} {h a : ℕ} (k : Key) {best : Bound} (p : AtLow s h k be
 module _ {s : List ℕ} {h a : ℕ} (k : Key) {best : Bound} (p : AtHigh s h k best a) where
   pub high-ends : a ≡ 0 → (t : Tree) → Lies s h t → best ≡ boundSlot (upperBound k t)
   unfolding highLoop
-  high-ends e t w = ends p e boundSlot (λ b x. x) t w ∙ ap boundSlot (high-loop k none t ∙ or-none (upperBound k t))
+  high-ends e t w = ends p e boundSlot (λ b x. x) t w ∙ ap boundSlot (high-all k t)
 
   module _ (ne : a ≡ 0 → ⊥) {n : Key} (en : n ≡ keyOf (slot s a)) {o : Ordering} (eo : o ≡ cmp n k) where
     pub high-right : o ≡ Less → {j : ℕ} → j ≡ slot s a .right → AtHigh s h k best j
@@ -134,16 +148,16 @@ module _ {s : List ℕ} {h a : ℕ} (k : Key) {best : Bound} (p : AtHigh s h k b
     unfolding highLoop
     high-stops q t w =
         stops p ne boundSlot (λ b c e l r i w. rw (told k en eo q e w) (ap (λ (j : ℕ). bound.At (Exact j)) (sym i))) t w
-        ∙ ap boundSlot (high-loop k none t ∙ or-none (upperBound k t))
+        ∙ ap boundSlot (high-all k t)
 
     pub high-left : o ≡ Greater → {j : ℕ} → j ≡ slot s a .left → AtHigh s h k (bound.At (Neighbor a)) j
     unfolding highLoop
-    high-left q w = go-left p ne w neighbor (λ b e x y. ap (λ (i : ℕ). bound.At (Neighbor i)) (sym y)) (λ b c e l r w. rw (told k en eo q e w))
+    high-left q w = go-left p ne w neighbor neighbor-here (λ b c e l r w. rw (told k en eo q e w))
 
 module _ {s : List ℕ} {h a : ℕ} (k : Key) {best : Bound} (p : AtPast s h k best a) where
   pub past-ends : a ≡ 0 → (t : Tree) → Lies s h t → best ≡ boundSlot (rightPrefixNeighbor k t)
   unfolding pastLoop
-  past-ends e t w = ends p e boundSlot (λ b x. x) t w ∙ ap boundSlot (past-loop k none t ∙ or-none (rightPrefixNeighbor k t))
+  past-ends e t w = ends p e boundSlot (λ b x. x) t w ∙ ap boundSlot (past-all k t)
 
   module _ (ne : a ≡ 0 → ⊥) {n : Key} (en : n ≡ keyOf (slot s a)) {o : Ordering} (eo : o ≡ cmp n k) where
     pub past-upto : (o ≡ Less) ⊎ (o ≡ Equal) → {j : ℕ} → j ≡ slot s a .right → AtPast s h k best j
@@ -161,7 +175,7 @@ module _ {s : List ℕ} {h a : ℕ} (k : Key) {best : Bound} (p : AtPast s h k b
 
       pub past-left : b ≡ false → {j : ℕ} → j ≡ slot s a .left → AtPast s h k (bound.At (Neighbor a)) j
       unfolding pastLoop
-      past-left x w = go-left p ne w neighbor (λ b e x y. ap (λ (i : ℕ). bound.At (Neighbor i)) (sym y)) (λ b c e l r w. rw (told k en eo q e w, begins x e w))
+      past-left x w = go-left p ne w neighbor neighbor-here (λ b c e l r w. rw (told k en eo q e w, begins x e w))
 
 -- ---- iteration: the best entry met so far is carried
 

@@ -2,11 +2,11 @@
 -- Where a bit lies is said by crate slots, what a node's slot is by crate store, what is searched for by crates llrb and witness_trees.
 -- Assumes nothing: these are definitions.
 use mathlib.Core.Path.{_≡_}
-use mathlib.Core.List.{List, []}
+use mathlib.Core.List.{List}
 use mathlib.Core.Option.{Option, none, some}
 use Prim.Native.Nat.{ℕ, _≤_}
 use lib.ListN.{length}
-use Rattle.slots.specs.Layout.{HasSlot, slot}
+use Rattle.slots.specs.Layout.{HasSlot, slot, keyOf, valueOf, keyAt, valueAt}
 use Rattle.llrb.specs.Tree.{Entry, Tree, nil, node, size}
 use Rattle.witness_trees.specs.Witness as bounds
 use Rattle.store.specs.Numbers.{Absent, numberOf}
@@ -58,7 +58,7 @@ abbrev pub boundSlot : Option bounds.KeyBound → Bound
 boundSlot none = bound.Nothing
 boundSlot (some b) = bound.At (keyBoundSlot b)
 
--- ---- where key and value lie
+-- ---- the entry in a slot
 
 -- slot i is in the store, and its lengths are an entry's
 pub record EntryAt (s : List ℕ) (i : ℕ) : Type 0 where
@@ -66,9 +66,33 @@ pub record EntryAt (s : List ℕ) (i : ℕ) : Type 0 where
   pub key : slot s i .keyLength ≤ 48
   pub value : slot s i .valueLength ≤ 64
 
+-- the entry e lies in its slot
+pub record Stored (s : List ℕ) (e : Entry) : Type 0 where
+  pub there : EntryAt s (e .slot)
+  pub keyLength : slot s (e .slot) .keyLength ≡ length (e .key)
+  pub valueLength : slot s (e .slot) .valueLength ≡ length (e .value)
+  pub key : keyOf (slot s (e .slot)) ≡ e .key
+  pub value : valueOf (slot s (e .slot)) ≡ e .value
+
+-- P of what was found, if anything was
+abbrev pub OfEntry : (Entry → Type 0) → Option Entry → Type 0
+OfEntry P none = Unit {0}
+OfEntry P (some e) = P e
+
+abbrev pub OfBound : (Entry → Type 0) → Option bounds.KeyBound → Type 0
+OfBound P none = Unit {0}
+OfBound P (some (bounds.Exact e)) = P e
+OfBound P (some (bounds.Neighbor e)) = P e
+
+-- ---- where its key and value lie
+
 abbrev pub FoundIn : List ℕ → Found → Type 0
 FoundIn s found.Nothing = Unit {0}
 FoundIn s (found.At i) = HasSlot (length s) i
+
+abbrev pub placeOf : List ℕ → Found → Place
+placeOf s found.Nothing = place.Nothing
+placeOf s (found.At i) = place.At (keyAt (length s) i) (slot s i .keyLength) (valueAt (length s) i) (slot s i .valueLength)
 
 -- the number and the values that a place stands for: nothing is 7
 abbrev pub answerOf : Place → answers.Found

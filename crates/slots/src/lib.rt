@@ -1,11 +1,12 @@
 // The bytes of a store (document 01, "Store layout"): the only crate that knows where a bit lies.
+mod runs;
+
 ghost use mathlib.Core.Path.{_≡_};
-ghost use Prim.Native.Nat.{ℕ, _+_, _≤_, _<_};
+ghost use Prim.Native.Nat.{_+_, _≤_, _<_};
 ghost use lib.ListN.{length, take};
-ghost use lib.Seq.{sets};
 ghost use mathlib.Core.Bool.{true};
-ghost use Rattle.slots.specs.Bits.{octets, fields, bit};
-ghost use Rattle.slots.specs.Layout.{HasSlot, headAt, keyAt, valueAt, digestAt, part, numberAt, header, HeaderFits, slot, digestOf, keyOf, valueOf, zeros, padded, nodeSlot, IsEntry, IsFree, headOf, HeadFits, CopiesWithin, Decides};
+ghost use Rattle.slots.specs.Bits.{bit};
+ghost use Rattle.slots.specs.Layout.{HasSlot, headAt, keyAt, valueAt, digestAt, header, HeaderFits, slot, digestOf, keyOf, valueOf, padded, nodeSlot, IsEntry, IsFree, headOf, HeadFits, Decides};
 ghost use Rattle.slots.specs.Setters.{setHeader, setSlot, setDigest, setLive, setRoot, setFree, withHead, setRed, setLeft, setRight, setValue, moveEntry, clearSlot};
 
 // The header's fields.
@@ -59,75 +60,13 @@ fn digest_at(n: usize, i: usize) -> usize
     8 + 150 * (i - 1) + 118
 }
 
-// ---- numbers in bytes, most significant first
-
-fn wide(x: u8) -> u64
-    ensures { λ r. ⌜ (r ≡ x) × (r < 256) ⌝ }
-{
-    x as u64
-}
-
-// The six bytes from `a` on.
-fn six(s: &[u8], a: usize) -> u64
-    requires { ⌜ a + 6 ≤ length (now s) ⌝ }
-    ensures { λ r. ⌜ r ≡ numberAt 6 (now (s .entry)) a ⌝ }
-{
-    wide(s[a]) * 1099511627776
-        + wide(s[a + 1]) * 4294967296
-        + wide(s[a + 2]) * 16777216
-        + wide(s[a + 3]) * 65536
-        + wide(s[a + 4]) * 256
-        + wide(s[a + 5])
-}
-
-fn put_six(s: &mut [u8], a: usize, h: u64)
-    requires { ⌜ a + 6 ≤ length (now s) ⌝ }
-    ensures { λ _. ⌜ now (s .exit) ≡ sets (now (s .entry)) a (fields (octets 6) h) ⌝ }
-{
-    s[a] = (h / 1099511627776 % 256) as u8;
-    s[a + 1] = (h / 4294967296 % 256) as u8;
-    s[a + 2] = (h / 16777216 % 256) as u8;
-    s[a + 3] = (h / 65536 % 256) as u8;
-    s[a + 4] = (h / 256 % 256) as u8;
-    s[a + 5] = (h % 256) as u8;
-}
-
-// The first eight bytes.
-fn eight(s: &[u8]) -> u64
-    requires { ⌜ 8 ≤ length (now s) ⌝ }
-    ensures { λ r. ⌜ r ≡ numberAt 8 (now (s .entry)) 0 ⌝ }
-{
-    wide(s[0]) * 72057594037927936
-        + wide(s[1]) * 281474976710656
-        + wide(s[2]) * 1099511627776
-        + wide(s[3]) * 4294967296
-        + wide(s[4]) * 16777216
-        + wide(s[5]) * 65536
-        + wide(s[6]) * 256
-        + wide(s[7])
-}
-
-fn put_eight(s: &mut [u8], h: u64)
-    requires { ⌜ 8 ≤ length (now s) ⌝ }
-    ensures { λ _. ⌜ now (s .exit) ≡ sets (now (s .entry)) 0 (fields (octets 8) h) ⌝ }
-{
-    s[0] = (h / 72057594037927936 % 256) as u8;
-    s[1] = (h / 281474976710656 % 256) as u8;
-    s[2] = (h / 1099511627776 % 256) as u8;
-    s[3] = (h / 4294967296 % 256) as u8;
-    s[4] = (h / 16777216 % 256) as u8;
-    s[5] = (h / 65536 % 256) as u8;
-    s[6] = (h / 256 % 256) as u8;
-    s[7] = (h % 256) as u8;
-}
-
 // ---- the header
 
 pub fn header_of(s: &[u8]) -> Header
     requires { ⌜ 8 ≤ length (now s) ⌝ }
     ensures { λ r. ⌜ r ≡ header (now (s .entry)) ⌝ }
 {
-    let h = eight(s);
+    let h = runs::eight(s);
     Header {
         edition: (h / 1152921504606846976 % 16) as usize,
         capacity: (h / 562949953421312 % 2048) as usize,
@@ -143,7 +82,7 @@ pub fn set_header(s: &mut [u8], h: Header)
     requires { ⌜ HeaderFits h ⌝ }
     ensures { λ _. ⌜ now (s .exit) ≡ setHeader (now (s .entry)) h ⌝ }
 {
-    put_eight(
+    runs::put_eight(
         s,
         h.edition as u64 * 1152921504606846976
             + h.capacity as u64 * 562949953421312
@@ -191,7 +130,7 @@ pub fn head_of(s: &[u8], i: usize) -> Head
     ensures { λ r. ⌜ r ≡ headOf (slot (now (s .entry)) i) ⌝ }
 {
     let a = head_at(s.len(), i);
-    let h = six(s, a);
+    let h = runs::six(s, a);
     Head {
         live: h / 140737488355328 % 2 == 1,
         red: h / 70368744177664 % 2 == 1,
@@ -216,7 +155,7 @@ fn set_head(s: &mut [u8], i: usize, h: Head)
     ensures { λ _. ⌜ now (s .exit) ≡ setSlot (now (s .entry)) i (withHead h (slot (now (s .entry)) i)) ⌝ }
 {
     let a = head_at(s.len(), i);
-    put_six(
+    runs::put_six(
         s,
         a,
         bit_of(h.live) * 140737488355328
@@ -338,41 +277,6 @@ pub fn set_digest(s: &mut [u8], i: usize, d: &[u8; 32])
     bytes::copy(d, &mut s[b..e]);
 }
 
-// Zeroes the `n` bytes from `a` on.
-fn wipe(s: &mut [u8], a: usize, n: usize)
-    requires { ⌜ a + n ≤ length (now s) ⌝ }
-    ensures { λ _. ⌜ now (s .exit) ≡ sets (now (s .entry)) a (zeros n) ⌝ }
-{
-    let mut i = 0;
-    while i < n {
-        s[a + i] = 0;
-        i += 1;
-    }
-}
-
-// Writes `x` and then zeros into the `n` bytes from `a` on.
-fn put_padded(s: &mut [u8], a: usize, n: usize, x: &[u8])
-    requires { ⌜ (a + n ≤ length (now s)) × (length (now x) ≤ n) ⌝ }
-    ensures { λ _. ⌜ now (s .exit) ≡ sets (now (s .entry)) a (padded n (now (x .entry))) ⌝ }
-{
-    let e = a + x.len();
-    bytes::copy(x, &mut s[a..e]);
-    wipe(s, e, n - x.len());
-}
-
-// Copies `n` bytes from `b` on to `a`; the two do not meet.
-fn copy_within(s: &mut [u8], a: usize, b: usize, n: usize)
-    requires { ⌜ CopiesWithin (length (now s)) a b n ⌝ }
-    ensures { λ _. ⌜ now (s .exit) ≡ sets (now (s .entry)) a (part b n (now (s .entry))) ⌝ }
-{
-    let mut i = 0;
-    while i < n {
-        let x = s[b + i];
-        s[a + i] = x;
-        i += 1;
-    }
-}
-
 // A new entry in slot `i`: red, with no children.
 pub fn put_entry(s: &mut [u8], i: usize, key: &[u8], value: &[u8])
     requires { ⌜ HasSlot (length (now s)) i ⌝ }
@@ -393,9 +297,9 @@ pub fn put_entry(s: &mut [u8], i: usize, key: &[u8], value: &[u8])
         },
     );
     let k = key_at(s.len(), i);
-    put_padded(s, k, 48, key);
+    runs::put_padded(s, k, 48, key);
     let v = value_at(s.len(), i);
-    put_padded(s, v, 64, value);
+    runs::put_padded(s, v, 64, value);
 }
 
 pub fn set_value(s: &mut [u8], i: usize, value: &[u8])
@@ -407,7 +311,7 @@ pub fn set_value(s: &mut [u8], i: usize, value: &[u8])
     h.value_length = value.len();
     set_head(s, i, h);
     let v = value_at(s.len(), i);
-    put_padded(s, v, 64, value);
+    runs::put_padded(s, v, 64, value);
 }
 
 // The key and the value of slot `j`, in slot `i` too.
@@ -424,10 +328,10 @@ pub fn move_entry(s: &mut [u8], i: usize, j: usize)
     set_head(s, i, h);
     let k = key_at(s.len(), i);
     let l = key_at(s.len(), j);
-    copy_within(s, k, l, 48);
+    runs::copy_within(s, k, l, 48);
     let v = value_at(s.len(), i);
     let w = value_at(s.len(), j);
-    copy_within(s, v, w, 64);
+    runs::copy_within(s, v, w, 64);
 }
 
 // Frees slot `i`: all zero but for `left`, the next free slot.
@@ -450,28 +354,14 @@ pub fn clear_slot(s: &mut [u8], i: usize, next: usize)
         },
     );
     let k = key_at(s.len(), i);
-    wipe(s, k, 48);
+    runs::wipe(s, k, 48);
     let v = value_at(s.len(), i);
-    wipe(s, v, 64);
+    runs::wipe(s, v, 64);
     let d = digest_at(s.len(), i);
-    wipe(s, d, 32);
+    runs::wipe(s, d, 32);
 }
 
 // ---- tests
-
-// Whether the `n` bytes from `a` on are zero: by their sum, in one pass with no branch.
-fn is_zero(s: &[u8], a: usize, n: usize) -> bool
-    requires { ⌜ (a + n ≤ length (now s)) × (n ≤ 64) ⌝ }
-    ensures { λ r. ⌜ Decides r (part a n (now (s .entry)) ≡ zeros n) ⌝ }
-{
-    let mut sum: u64 = 0;
-    let mut i = 0;
-    while i < n {
-        sum += wide(s[a + i]);
-        i += 1;
-    }
-    sum == 0
-}
 
 // Whether the key's room is `n` bytes of key and then zeros.
 fn key_padded(s: &[u8], i: usize, n: usize) -> bool
@@ -480,7 +370,7 @@ fn key_padded(s: &[u8], i: usize, n: usize) -> bool
     ensures { λ r. ⌜ Decides r (slot (now (s .entry)) i .keyRoom ≡ padded 48 (take n (slot (now (s .entry)) i .keyRoom))) ⌝ }
 {
     let k = key_at(s.len(), i);
-    is_zero(s, k + n, 48 - n)
+    runs::is_zero(s, k + n, 48 - n)
 }
 
 fn value_padded(s: &[u8], i: usize, n: usize) -> bool
@@ -489,7 +379,7 @@ fn value_padded(s: &[u8], i: usize, n: usize) -> bool
     ensures { λ r. ⌜ Decides r (slot (now (s .entry)) i .valueRoom ≡ padded 64 (take n (slot (now (s .entry)) i .valueRoom))) ⌝ }
 {
     let v = value_at(s.len(), i);
-    is_zero(s, v + n, 64 - n)
+    runs::is_zero(s, v + n, 64 - n)
 }
 
 // Whether slot `i`, whose head is `h`, is laid out as an entry's.
@@ -543,13 +433,13 @@ pub fn is_free(s: &[u8], i: usize) -> bool
         return false;
     }
     let k = key_at(s.len(), i);
-    if !is_zero(s, k, 48) {
+    if !runs::is_zero(s, k, 48) {
         return false;
     }
     let v = value_at(s.len(), i);
-    if !is_zero(s, v, 64) {
+    if !runs::is_zero(s, v, 64) {
         return false;
     }
     let d = digest_at(s.len(), i);
-    is_zero(s, d, 32)
+    runs::is_zero(s, d, 32)
 }

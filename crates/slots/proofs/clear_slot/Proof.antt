@@ -9,7 +9,7 @@ use Rattle.slots.proofs.digest_at.Reads as digest-at-reads
 use Rattle.slots.proofs.key_at.Reads as key-at-reads
 use Rattle.slots.proofs.set_head.Reads as set-head-reads
 use Rattle.slots.proofs.value_at.Reads as value-at-reads
-use Rattle.slots.proofs.wipe.Reads as wipe-reads
+use Rattle.slots.proofs.runs.wipe.Reads as wipe-reads
 
 -- src/lib.rt:439:5
 set-head-requires : tie.Need-set-head-requires

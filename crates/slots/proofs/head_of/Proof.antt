@@ -5,7 +5,7 @@ use Rattle.slots.proofs.head_of.Tie as tie
 use Rattle.slots.proofs.head_of.Reads as reads
 use Rattle.slots.proofs.head_of.Lts as lts
 use Rattle.slots.proofs.head_at.Reads as head-at-reads
-use Rattle.slots.proofs.six.Reads as six-reads
+use Rattle.slots.proofs.runs.six.Reads as six-reads
 
 -- src/lib.rt:192:9
 head-at-requires : tie.Need-head-at-requires

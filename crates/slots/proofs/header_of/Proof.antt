@@ -4,7 +4,7 @@ use Rattle.slots.proofs.header_of.Statement.{statement}
 use Rattle.slots.proofs.header_of.Tie as tie
 use Rattle.slots.proofs.header_of.Reads as reads
 use Rattle.slots.proofs.header_of.Lts as lts
-use Rattle.slots.proofs.eight.Reads as eight-reads
+use Rattle.slots.proofs.runs.eight.Reads as eight-reads
 
 -- src/lib.rt:129:9
 eight-requires : tie.Need-eight-requires

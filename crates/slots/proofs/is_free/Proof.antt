@@ -9,7 +9,7 @@ use Rattle.slots.proofs.is_free.Reads as reads
 use Rattle.slots.proofs.is_free.Lts as lts
 use Rattle.slots.proofs.digest_at.Reads as digest-at-reads
 use Rattle.slots.proofs.head_of.Reads as head-of-reads
-use Rattle.slots.proofs.is_zero.Reads as is-zero-reads
+use Rattle.slots.proofs.runs.is_zero.Reads as is-zero-reads
 use Rattle.slots.proofs.key_at.Reads as key-at-reads
 use Rattle.slots.proofs.value_at.Reads as value-at-reads
 

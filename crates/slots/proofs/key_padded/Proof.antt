@@ -4,7 +4,7 @@ use Rattle.slots.proofs.key_padded.Statement.{statement}
 use Rattle.slots.proofs.key_padded.Tie as tie
 use Rattle.slots.proofs.key_padded.Reads as reads
 use Rattle.slots.proofs.key_padded.Lts as lts
-use Rattle.slots.proofs.is_zero.Reads as is-zero-reads
+use Rattle.slots.proofs.runs.is_zero.Reads as is-zero-reads
 use Rattle.slots.proofs.key_at.Reads as key-at-reads
 
 -- src/lib.rt:482:9

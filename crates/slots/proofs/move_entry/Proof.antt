@@ -6,7 +6,7 @@ use Rattle.slots.proofs.move_entry.Statement.{statement}
 use Rattle.slots.proofs.move_entry.Tie as tie
 use Rattle.slots.proofs.move_entry.Reads as reads
 use Rattle.slots.proofs.move_entry.Lts as lts
-use Rattle.slots.proofs.copy_within.Reads as copy-within-reads
+use Rattle.slots.proofs.runs.copy_within.Reads as copy-within-reads
 use Rattle.slots.proofs.head_of.Reads as head-of-reads
 use Rattle.slots.proofs.key_at.Reads as key-at-reads
 use Rattle.slots.proofs.set_head.Reads as set-head-reads

@@ -6,7 +6,7 @@ use Rattle.slots.proofs.put_entry.Tie as tie
 use Rattle.slots.proofs.put_entry.Reads as reads
 use Rattle.slots.proofs.put_entry.Lts as lts
 use Rattle.slots.proofs.key_at.Reads as key-at-reads
-use Rattle.slots.proofs.put_padded.Reads as put-padded-reads
+use Rattle.slots.proofs.runs.put_padded.Reads as put-padded-reads
 use Rattle.slots.proofs.set_head.Reads as set-head-reads
 use Rattle.slots.proofs.value_at.Reads as value-at-reads
 

@@ -6,7 +6,7 @@ use Rattle.slots.proofs.set_head.Reads as reads
 use Rattle.slots.proofs.set_head.Lts as lts
 use Rattle.slots.proofs.bit_of.Reads as bit-of-reads
 use Rattle.slots.proofs.head_at.Reads as head-at-reads
-use Rattle.slots.proofs.put_six.Reads as put-six-reads
+use Rattle.slots.proofs.runs.put_six.Reads as put-six-reads
 
 -- src/lib.rt:217:9
 head-at-requires : tie.Need-head-at-requires

@@ -4,7 +4,7 @@ use Rattle.slots.proofs.set_header.Statement.{statement}
 use Rattle.slots.proofs.set_header.Tie as tie
 use Rattle.slots.proofs.set_header.Reads as reads
 use Rattle.slots.proofs.set_header.Lts as lts
-use Rattle.slots.proofs.put_eight.Reads as put-eight-reads
+use Rattle.slots.proofs.runs.put_eight.Reads as put-eight-reads
 
 -- src/lib.rt:147:9
 mul-put-eight : tie.Need-mul-put-eight

@@ -5,7 +5,7 @@ use Rattle.slots.proofs.set_value.Tie as tie
 use Rattle.slots.proofs.set_value.Reads as reads
 use Rattle.slots.proofs.set_value.Lts as lts
 use Rattle.slots.proofs.head_of.Reads as head-of-reads
-use Rattle.slots.proofs.put_padded.Reads as put-padded-reads
+use Rattle.slots.proofs.runs.put_padded.Reads as put-padded-reads
 use Rattle.slots.proofs.set_head.Reads as set-head-reads
 use Rattle.slots.proofs.value_at.Reads as value-at-reads
 

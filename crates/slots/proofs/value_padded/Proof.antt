@@ -4,7 +4,7 @@ use Rattle.slots.proofs.value_padded.Statement.{statement}
 use Rattle.slots.proofs.value_padded.Tie as tie
 use Rattle.slots.proofs.value_padded.Reads as reads
 use Rattle.slots.proofs.value_padded.Lts as lts
-use Rattle.slots.proofs.is_zero.Reads as is-zero-reads
+use Rattle.slots.proofs.runs.is_zero.Reads as is-zero-reads
 use Rattle.slots.proofs.value_at.Reads as value-at-reads
 
 -- src/lib.rt:491:9

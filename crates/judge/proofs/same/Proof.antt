@@ -1,0 +1,43 @@
+use Rattle.judge.proofs.Testing.{less-other, greater-other, equal-same}
+use borrow.Author.Needs.{needs}
+use Rattle.judge.proofs.same.Statement.{statement}
+use Rattle.judge.proofs.same.Tie as tie
+use Rattle.judge.proofs.same.Reads as reads
+use Rattle.judge.proofs.same.Lts as lts
+use Rattle.key_order.proofs.compare.Reads as compare-reads
+
+-- src/lib.rt:76:11
+compare-requires : tie.Need-compare-requires
+compare-requires c κs = search needs
+
+-- src/lib.rt:77:27
+enum-told : tie.Need-enum-told
+enum-told c = search needs
+
+-- src/lib.rt:78:28
+enum-told-2 : tie.Need-enum-told-2
+enum-told-2 c = search needs
+
+-- src/lib.rt:79:30
+enum-told-3 : tie.Need-enum-told-3
+enum-told-3 c = search needs
+
+-- src/lib.rt:73:1
+returns : tie.Need-returns
+returns c =
+    less-other (c .before .before .before .before .before .args .a .now) (c .before .before .before .before .before .args .b .now) (c .before .before .compare .ensures) (c .enum-told .given .1)
+
+-- src/lib.rt:73:1
+returns-2 : tie.Need-returns-2
+returns-2 c =
+    equal-same (c .before .before .before .before .before .args .a .now) (c .before .before .before .before .before .args .b .now) (c .before .before .compare .ensures) (c .enum-told2 .given .1)
+
+-- src/lib.rt:73:1
+returns-3 : tie.Need-returns-3
+returns-3 c =
+    greater-other (c .before .before .before .before .before .args .a .now) (c .before .before .before .before .before .args .b .now) (c .before .before .compare .ensures) (c .enum-told3 .given .1)
+
+pub same-spec : {M : Type 1} → statement M
+same-spec =
+    tie.close
+    (tie.spec compare-requires enum-told enum-told-2 enum-told-3 returns returns-2 returns-3)

@@ -1,0 +1,3 @@
+-- What the steps of the judgement tell.
+pub mod Rising
+pub mod Steps

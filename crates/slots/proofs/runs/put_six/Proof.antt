@@ -1,0 +1,124 @@
+use mathlib.Core.Path.{_≡_}
+use Prim.Native.Nat.{ℕ, suc, _+_}
+use native.Mathlib.Nat.{div-one}
+use native.Mathlib.Omega.{arith}
+use lib.ListN.{length-set}
+use Rattle.slots.specs.Bits.{fields}
+use borrow.Author.Needs.{needs}
+use Rattle.slots.proofs.runs.put_six.Statement.{statement}
+use Rattle.slots.proofs.runs.put_six.Tie as tie
+use Rattle.slots.proofs.runs.put_six.Reads as reads
+use Rattle.slots.proofs.runs.put_six.Lts as lts
+
+-- src/lib.rt:86:12
+cast-s : tie.Need-cast-s
+cast-s c = search needs
+
+-- src/lib.rt:86:5
+slice-write-s : tie.Need-slice-write-s
+slice-write-s c = search needs
+
+-- src/lib.rt:87:16
+cast-s-2 : tie.Need-cast-s-2
+cast-s-2 c = search needs
+
+-- src/lib.rt:87:7
+add-s : tie.Need-add-s
+add-s c = search needs
+
+-- src/lib.rt:87:5
+slice-write-s-2 : tie.Need-slice-write-s-2
+slice-write-s-2 c =
+    simp length-set (omega arith)
+
+-- src/lib.rt:88:16
+cast-s-3 : tie.Need-cast-s-3
+cast-s-3 c = search needs
+
+-- src/lib.rt:88:7
+add-s-2 : tie.Need-add-s-2
+add-s-2 c = search needs
+
+-- src/lib.rt:88:5
+slice-write-s-3 : tie.Need-slice-write-s-3
+slice-write-s-3 c =
+    simp length-set (omega arith)
+
+-- src/lib.rt:89:16
+cast-s-4 : tie.Need-cast-s-4
+cast-s-4 c = search needs
+
+-- src/lib.rt:89:7
+add-s-3 : tie.Need-add-s-3
+add-s-3 c = search needs
+
+-- src/lib.rt:89:5
+slice-write-s-4 : tie.Need-slice-write-s-4
+slice-write-s-4 c =
+    simp length-set (omega arith)
+
+-- src/lib.rt:90:16
+cast-s-5 : tie.Need-cast-s-5
+cast-s-5 c = search needs
+
+-- src/lib.rt:90:7
+add-s-4 : tie.Need-add-s-4
+add-s-4 c = search needs
+
+-- src/lib.rt:90:5
+slice-write-s-5 : tie.Need-slice-write-s-5
+slice-write-s-5 c =
+    simp length-set (omega arith)
+
+-- src/lib.rt:91:16
+cast-s-6 : tie.Need-cast-s-6
+cast-s-6 c = search needs
+
+-- src/lib.rt:91:7
+add-s-5 : tie.Need-add-s-5
+add-s-5 c = search needs
+
+-- src/lib.rt:91:5
+slice-write-s-6 : tie.Need-slice-write-s-6
+slice-write-s-6 c =
+    simp length-set (omega arith)
+
+-- src/lib.rt:82:1
+same-length : tie.Need-same-length
+same-length c = search needs
+
+-- src/lib.rt:82:1
+returns : tie.Need-returns
+unfolding fields
+returns c =
+    let a = c .args .a in
+    let e1 : a + 1 ≡ suc a = omega arith in
+    let e2 : a + 2 ≡ suc (suc a) = omega arith in
+    let e3 : a + 3 ≡ suc (suc (suc a)) = omega arith in
+    let e4 : a + 4 ≡ suc (suc (suc (suc a))) = omega arith in
+    let e5 : a + 5 ≡ suc (suc (suc (suc (suc a)))) = omega arith in
+    rw (e1, e2, e3, e4, e5, div-one)
+
+pub put-six-spec : {M : Type 1} → statement M
+put-six-spec =
+    tie.close
+    (tie.spec
+    cast-s
+    slice-write-s
+    cast-s-2
+    add-s
+    slice-write-s-2
+    cast-s-3
+    add-s-2
+    slice-write-s-3
+    cast-s-4
+    add-s-3
+    slice-write-s-4
+    cast-s-5
+    add-s-4
+    slice-write-s-5
+    cast-s-6
+    add-s-5
+    slice-write-s-6
+    same-length
+    returns)

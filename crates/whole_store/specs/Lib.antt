@@ -1,0 +1,3 @@
+-- The calls that concern a store as a whole.
+pub mod Answers
+pub mod Fresh

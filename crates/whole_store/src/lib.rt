@@ -1,0 +1,165 @@
+// The calls that concern a store as a whole: create, count, is_empty, root_hash.
+use hash_tree::empty_hash;
+use judge::judge;
+use slots::Header;
+ghost use mathlib.Core.Path.{_≡_};
+ghost use Prim.Native.Nat.{ℕ, _≤_};
+ghost use lib.ListN.{length};
+ghost use Rattle.slots.specs.Layout.{HasSlot, digestOf, zeros};
+ghost use Rattle.store.specs.Model.{fresh};
+ghost use Rattle.store.specs.Encode.{encode};
+ghost use Rattle.store.specs.Calls.{createAnswer, countAnswer, isEmptyAnswer, rootHashAnswer};
+ghost use Rattle.judge.specs.Steps.{Sized};
+ghost use Rattle.whole_store.specs.Answers.{countedOf, toldOf, digestedOf, changedOf};
+ghost use Rattle.whole_store.specs.Fresh.{nextOf};
+
+// The number of document 01, and how many entries there are.
+pub struct Counted {
+    pub number: usize,
+    pub count: usize,
+}
+
+// The number of document 01, and a yes or no.
+pub struct Told {
+    pub number: usize,
+    pub yes: bool,
+}
+
+// The number of document 01, and a digest.
+pub struct Digested {
+    pub number: usize,
+    pub digest: [u8; 32],
+}
+
+fn wipe(s: &mut [u8])
+    ensures { λ _. ⌜ now (s .exit) ≡ zeros (length (now (s .entry))) ⌝ }
+{
+    let mut i = 0;
+    while i < s.len() {
+        s[i] = 0;
+        i += 1;
+    }
+}
+
+// The slot after `x` in the chain.
+fn next(cap: usize, x: usize) -> usize
+    requires { ⌜ x ≤ 1024 ⌝ }
+    ensures { λ r. ⌜ r ≡ nextOf cap x ⌝ }
+{
+    if x == cap {
+        return 0;
+    }
+    x + 1
+}
+
+// A fresh store, whatever the bytes were.
+fn lay(s: &mut [u8], cap: usize)
+    requires { ⌜ 1 ≤ cap ⌝ }
+    requires { ⌜ Sized (length (now s)) cap ⌝ }
+    ensures { λ _. ⌜ now (s .exit) ≡ encode (fresh cap) ⌝ }
+{
+    wipe(s);
+    let mut i = 0;
+    while i < cap {
+        let x = i + 1;
+        let y = next(cap, x);
+        slots::clear_slot(s, x, y);
+        i = x;
+    }
+    slots::set_header(
+        s,
+        Header {
+            edition: 1,
+            capacity: cap,
+            live: 0,
+            root: 0,
+            free: 1,
+            zero: 0,
+        },
+    );
+}
+
+// Makes the buffer a fresh store: 0, or 8 where capacity or length are wrong. Any capacity may arrive.
+pub fn create(s: &mut [u8], capacity: u64) -> usize
+    ensures { λ r. ⌜ changedOf r (now (s .exit)) ≡ createAnswer capacity (now (s .entry)) ⌝ }
+{
+    if capacity == 0 {
+        return 8;
+    }
+    if 1024 < capacity {
+        return 8;
+    }
+    let cap = capacity as usize;
+    if s.len() != 8 + 150 * cap {
+        return 8;
+    }
+    lay(s, cap);
+    0
+}
+
+// The number of entries.
+pub fn count(s: &[u8]) -> Counted
+    ensures { λ r. ⌜ countedOf r ≡ countAnswer (now (s .entry)) ⌝ }
+{
+    if !judge(s) {
+        return Counted {
+            number: 1,
+            count: 0,
+        };
+    }
+    let h = slots::header_of(s);
+    Counted {
+        number: 0,
+        count: h.live,
+    }
+}
+
+// Whether there is no entry.
+pub fn is_empty(s: &[u8]) -> Told
+    ensures { λ r. ⌜ toldOf r ≡ isEmptyAnswer (now (s .entry)) ⌝ }
+{
+    if !judge(s) {
+        return Told {
+            number: 1,
+            yes: false,
+        };
+    }
+    let h = slots::header_of(s);
+    Told {
+        number: 0,
+        yes: h.live == 0,
+    }
+}
+
+fn stored_digest(s: &[u8], i: usize) -> [u8; 32]
+    requires { ⌜ HasSlot (length (now s)) i ⌝ }
+    ensures { λ r. ⌜ r ≡ digestOf (now (s .entry)) i ⌝ }
+{
+    let mut d = [0u8; 32];
+    bytes::copy(slots::digest(s, i), &mut d);
+    d
+}
+
+// The digest of the whole map.
+pub fn root_hash(s: &[u8]) -> Digested
+    ensures { λ r. ⌜ digestedOf r ≡ rootHashAnswer (now (s .entry)) ⌝ }
+{
+    if !judge(s) {
+        return Digested {
+            number: 1,
+            digest: [0u8; 32],
+        };
+    }
+    let h = slots::header_of(s);
+    let root = h.root;
+    if root == 0 {
+        return Digested {
+            number: 0,
+            digest: empty_hash(),
+        };
+    }
+    Digested {
+        number: 0,
+        digest: stored_digest(s, root),
+    }
+}
