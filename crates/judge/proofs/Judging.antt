@@ -31,10 +31,11 @@ use Rattle.judge.proofs.Testing.{has-slot, padded-most}
 
 within-of : (cap : ℕ) (t : Tree) → ((x : ℕ) → 1 ≤ occurs x (slotsOf t) → (1 ≤ x) × (x ≤ cap)) → Within cap t
 within-of cap nil h = tt
-within-of cap (node c e l r) h =
-    (h (e .slot) (omega (arith, slots-node (e .slot) c e l r, is-self (e .slot))),
-    within-of cap l (λ x p. h x (omega (arith, slots-node x c e l r))),
-    within-of cap r (λ x p. h x (omega (arith, slots-node x c e l r))))
+within-of cap (node c e l r) h = (
+  h (e .slot) (omega (arith, slots-node (e .slot) c e l r, is-self (e .slot))),
+  within-of cap l (λ x p. h x (omega (arith, slots-node x c e l r))),
+  within-of cap r (λ x p. h x (omega (arith, slots-node x c e l r))),
+)
 
 inside-of : (cap : ℕ) (f : List ℕ) → ((x : ℕ) → 1 ≤ occurs x f → (1 ≤ x) × (x ≤ cap)) → Inside cap f
 inside-of cap [] h = tt
@@ -130,30 +131,31 @@ sound-of s o {q} {n} {b} x z k =
     let e : size t ≡ header s .live = omega (arith, x .1 .sum) in
     let p = rising-sorted none (entries t) (x .1 .rising) in
     let ex = x .1 .top in
-    let ek = k .top in
-    (record { capacity = c; tree = t; free = k .free },
-    record {
-      laid =
-        record {
-          len = o .sized .len;
-          header = λ i. record { edition = o .edition i; capacity = c; live = sym e i; root = sym ex i; free = sym ek i; zero = o .zero i };
-          nodes = g .nodes;
-          digests = g .digests;
-          chain = k .chain;
-        };
-      lawful =
-        record {
-          least = o .least;
-          most = o .sized .most;
-          short = short-of s c t (o .sized) (g .within) (g .nodes);
-          ordered = p;
-          rootBlack = x .1 .colour refl;
-          redsApart = g .redsApart;
-          leansLeft = g .leansLeft;
-          sameBlacks = (b, x .1 .blacks);
-          once = covered s c t (k .free) (g .within) (k .inside) (g .nodes) (k .chain) p (omega (arith, e, k .long, o .live));
-        };
-    })
+    let ek = k .top in (
+      record { capacity = c; tree = t; free = k .free },
+      record {
+        laid =
+            record {
+              len = o .sized .len;
+              header = λ i. record { edition = o .edition i; capacity = c; live = sym e i; root = sym ex i; free = sym ek i; zero = o .zero i };
+              nodes = g .nodes;
+              digests = g .digests;
+              chain = k .chain;
+            };
+        lawful =
+            record {
+              least = o .least;
+              most = o .sized .most;
+              short = short-of s c t (o .sized) (g .within) (g .nodes);
+              ordered = p;
+              rootBlack = x .1 .colour refl;
+              redsApart = g .redsApart;
+              leansLeft = g .leansLeft;
+              sameBlacks = (b, x .1 .blacks);
+              once = covered s c t (k .free) (g .within) (k .inside) (g .nodes) (k .chain) p (omega (arith, e, k .long, o .live));
+            };
+      },
+    )
 
 -- ---- in the words of the code, h the header that it read
 

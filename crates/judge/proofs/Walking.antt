@@ -157,18 +157,20 @@ height-node c e l r d p = (omega arith, omega arith, omega arith)
 
 pub seen-nil : {s : List ℕ} {cap d h p n : ℕ} {k : Bool} → h ≡ 0 → Met s cap p → (t : Tree) × Seen s cap d h p n k t p n 0
 unfolding size
-seen-nil e w =
-    (nil, record {
-      top = sym e;
-      good = record { within = tt; nodes = tt; digests = tt; redsApart = tt; leansLeft = tt };
-      colour = λ x. refl;
-      rising = tt;
-      last = refl;
-      met = w;
-      sum = omega arith;
-      blacks = refl;
-      low = omega arith;
-    })
+seen-nil e w = (
+  nil,
+  record {
+    top = sym e;
+    good = record { within = tt; nodes = tt; digests = tt; redsApart = tt; leansLeft = tt };
+    colour = λ x. refl;
+    rising = tt;
+    last = refl;
+    met = w;
+    sum = omega arith;
+    blacks = refl;
+    low = omega arith;
+  },
+)
 
 module _ {s : List ℕ} {cap d h p n : ℕ} {k : Bool} (ne : h ≡ 0 → ⊥) where
   pub deep-none : d ≡ 0 → (t : Tree) → Fits s cap d h p n k t → ⊥

@@ -6,8 +6,8 @@
 use hash_tree::fork_hash;
 use hash_tree::labeled_hash;
 use hash_tree::leaf_hash;
-use key_order::compare;
 use key_order::Ordering;
+use key_order::compare;
 use slots::Head;
 use slots::Header;
 ghost use mathlib.Core.Path.{_≡_};
@@ -91,7 +91,7 @@ fn below(a: &[u8], b: &[u8]) -> bool
 }
 
 // From the data digest `d` and the stored digests of the slots that the links name.
-fn fork_with(s: &[u8], cap: usize, left: usize, right: usize, d: [u8; 32]) -> [u8; 32]
+pub fn fork_with(s: &[u8], cap: usize, left: usize, right: usize, d: [u8; 32]) -> [u8; 32]
     requires { ⌜ Sized (length (now s)) cap ⌝ }
     requires { ⌜ (left ≤ cap) × (right ≤ cap) ⌝ }
     ensures { λ r. ⌜ r ≡ nodeDigest (eqb left 0) (eqb right 0) (digestOf (now (s .entry)) left) d (digestOf (now (s .entry)) right) ⌝ }
@@ -267,8 +267,7 @@ pub fn judge(s: &[u8]) -> bool
     if !header_ok(s.len(), h) {
         return false;
     }
-    let Trail::Got { last, left, blacks } =
-        walk(s, h.capacity, MAX_HEIGHT, h.root, 0, h.live, true)
+    let Trail::Got { last, left, blacks } = walk(s, h.capacity, MAX_HEIGHT, h.root, 0, h.live, true)
     else {
         return false;
     };

@@ -74,10 +74,11 @@ module _ (cap : ℕ) (least : 1 ≤ cap) (most : cap ≤ 1024) where
 
   chain : (a n : ℕ) → 1 ≤ a → a + n ≡ suc cap → Chain s (numbersFrom a n)
   chain a zero p e = tt
-  chain a (suc n) p e =
-      (slot-bytesOf h cap (slotOf cap) digestOf few ok wide a p (omega arith) ∙ ap (λ (z : ℕ). freeSlot z) (sym (next-is a n (omega arith))),
-      digest-bytesOf h cap (slotOf cap) digestOf few ok wide a p (omega arith),
-      chain (suc a) n (omega arith) (omega arith))
+  chain a (suc n) p e = (
+    slot-bytesOf h cap (slotOf cap) digestOf few ok wide a p (omega arith) ∙ ap (λ (z : ℕ). freeSlot z) (sym (next-is a n (omega arith))),
+    digest-bytesOf h cap (slotOf cap) digestOf few ok wide a p (omega arith),
+    chain (suc a) n (omega arith) (omega arith),
+  )
 
   first : (n : ℕ) → 1 ≤ n → head (numbersTo n) ≡ 1
   first zero p = absurd (omega arith)
