@@ -22,7 +22,7 @@ use Rattle.store.specs.Counting.{is-self, is-other, is-same, occurs-append, eit
 use Rattle.store.specs.Model.{slotsOf, root, head}
 use Rattle.store.specs.Sound.{Nodes, Chain}
 use Rattle.slots.proofs.Writing.{node-key}
-use Rattle.store.proofs.Trees.{size-slots, Where, top, left, right, find-slot}
+use Rattle.store.proofs.Trees.{size-slots, slots-node}
 use Rattle.judge.specs.Steps.{Within, Inside}
 use Rattle.judge.proofs.Unique.{chain-same}
 
@@ -153,12 +153,13 @@ chain-once s n (y ∷ f) x v a = go (eqb x y) refl (chain-once s n f x (v .1) (a
 
 tree-live : (s : List ℕ) (t : Tree) (x : ℕ) → Nodes s t → 1 ≤ occurs x (slotsOf t) → slot s x .live ≡ true
 tree-live s nil x a p = absurd (not-suc-le-zero p)
-tree-live s (node c e l r) x a p = go (find-slot x c e l r p) (tree-live s l x (a .1)) (tree-live s r x (a .2))
-  where
-    go : Where x e l r → (1 ≤ occurs x (slotsOf l) → slot s x .live ≡ true) → (1 ≤ occurs x (slotsOf r) → slot s x .live ≡ true) → slot s x .live ≡ true
-    go (top h) i j = ap (λ (z : ℕ). slot s z .live) (is-same x (e .slot) h) ∙ ap (λ (z : Slot). z .live) (a .0)
-    go (left h) i j = i h
-    go (right h) i j = j h
+tree-live s (node c e l r) x a p =
+    ⊎-elim
+    (λ (h : 1 ≤ is x (e .slot)). ap (λ (z : ℕ). slot s z .live) (is-same x (e .slot) h) ∙ ap (λ (z : Slot). z .live) (a .0))
+    (λ (h : 1 ≤ occurs x (slotsOf l) + occurs x (slotsOf r)).
+    ⊎-elim (λ (g : 1 ≤ occurs x (slotsOf l)). tree-live s l x (a .1) g) (λ (g : 1 ≤ occurs x (slotsOf r)). tree-live s r x (a .2) g)
+    (either (occurs x (slotsOf l)) (occurs x (slotsOf r)) h))
+    (either (is x (e .slot)) (occurs x (slotsOf l) + occurs x (slotsOf r)) (omega (arith, slots-node x c e l r)))
 
 chain-dead : (s : List ℕ) (f : List ℕ) (x : ℕ) → Chain s f → 1 ≤ occurs x f → slot s x .live ≡ false
 chain-dead s [] x a p = absurd (not-suc-le-zero p)

@@ -1,0 +1,32 @@
+use mathlib.Core.Path.{_≡_, refl, sym, ap, _∙_}
+use borrow.Author.Tests.{le-leb, lt-leb}
+use borrow.Author.Needs.{needs}
+use Rattle.witness.proofs.less.Statement.{statement}
+use Rattle.witness.proofs.less.Tie as tie
+use Rattle.witness.proofs.less.Reads as reads
+use Rattle.witness.proofs.less.Lts as lts
+
+-- src/lib.rt:274:20
+enum-known-room : tie.Need-enum-known-room
+enum-known-room c = search needs
+
+-- src/lib.rt:275:9
+enum-told : tie.Need-enum-told
+enum-told c = search needs
+
+-- src/lib.rt:275:9
+returns : tie.Need-returns
+returns c = search needs
+
+-- src/lib.rt:271:1
+returns-2 : tie.Need-returns-2
+returns-2 c =
+    rw (c .before .before .room .given .1, le-leb _ _ (c .if1 .taken))
+
+-- src/lib.rt:271:1
+returns-3 : tie.Need-returns-3
+returns-3 c =
+    rw (c .before .before .room .given .1, lt-leb _ _ (c .if1 .left))
+
+pub less-spec : {M : Type 1} → statement M
+less-spec = tie.close (tie.spec enum-known-room enum-told returns returns-2 returns-3)

@@ -1,0 +1,3 @@
+-- The witnesses of a store, written.
+pub mod Putting
+pub mod Saving

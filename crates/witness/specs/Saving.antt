@@ -1,0 +1,42 @@
+-- What the calls answer: the number and the length beside the output's bytes at the end, as crate store has it.
+-- Assumes nothing: these are definitions.
+use mathlib.Core.Path.{_≡_}
+use mathlib.Core.Bool.{cond}
+use mathlib.Core.List.{List}
+use Prim.Native.Nat.{ℕ}
+use lib.Dec.{ltb}
+use lib.ListN.{length}
+use Rattle.llrb.specs.Tree.{Tree}
+use Rattle.store.specs.Numbers.{NoRoom, refused, done}
+use Rattle.store.specs.Answers.{Written, written}
+use Rattle.search.specs.Search.{EntryAt}
+use Rattle.search.specs.declared.Bound.{Bound}
+use Rattle.search.specs.declared.Bound.the-variants.{At, Nothing}
+use Rattle.witness_walks.specs.declared.Walk.{Walk}
+use Rattle.witness_walks.specs.declared.What.{What}
+use Rattle.witness_walks.specs.declared.Part.the-variants.{Walked}
+use Rattle.witness_walks.specs.Arms.{slotOf}
+use Rattle.witness_walks.specs.InStore.{BoundsIn}
+use Rattle.witness.specs.declared.Saved.{Saved}
+use Rattle.witness.specs.Putting.{Laid, bytesBelow}
+
+abbrev pub answered : Saved → (output : List ℕ) → Written
+answered r o = record { number = r .number; size = r .size; output = o }
+
+-- w at the front of o, if o has room for it
+abbrev pub putFront : (o w : List ℕ) → Written
+putFront o w = written o (cond (ltb (length o) (length w)) (refused NoRoom) (done w))
+
+abbrev pub CanSave : List ℕ → ℕ → Walk → Type 0
+CanSave s n walk = (t : Tree) × Laid s n t × BoundsIn s walk
+
+abbrev pub Saves : List ℕ → ℕ → Walk → What → (o o′ : List ℕ) → Saved → Type 0
+Saves s n walk f o o′ r = (t : Tree) → Laid s n t → answered r o′ ≡ putFront o (bytesBelow s f (Walked walk) t)
+
+-- a bound, if there is one, is an entry's slot
+abbrev pub BoundIn : List ℕ → Bound → Type 0
+BoundIn s Nothing = Unit {0}
+BoundIn s (At b) = EntryAt s (slotOf b)
+
+abbrev pub CanRange : List ℕ → ℕ → Bound → Bound → Type 0
+CanRange s n left right = (t : Tree) × Laid s n t × BoundIn s left × BoundIn s right

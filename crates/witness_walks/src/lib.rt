@@ -1,0 +1,459 @@
+// The walks of the Rust over the slots of a store. The `HashTree` on the heap becomes the written form, parent first: so a walk says
+// what becomes of a node's three parts before any of them is made, and three_way_fork joins them by their kinds alone.
+use key_order::{compare, Ordering};
+use search::KeyBound;
+use slots::key;
+ghost use mathlib.Core.Path.{_≡_};
+ghost use mathlib.Core.Bool.{_&&_};
+ghost use lib.Dec.{eqb};
+ghost use Rattle.key_order.specs.Order.{cmp};
+ghost use Rattle.search.specs.Search.{EntryAt};
+ghost use Rattle.witness_walks.specs.Arms.{seenAt, bothSeen, slotOf, fullArms, aboveArms, belowArms, betweenArms, lookupArms, armsAt};
+ghost use Rattle.witness_walks.specs.Records.{isEmpty, isPruned, kindOfPart, kindOfWhat, shapeOf, recordsOf, wholeRecords};
+ghost use Rattle.witness_walks.specs.InStore.{keyIn, BoundsIn, recordsIn};
+
+// Which walk of the Rust goes on below a slot.
+pub enum Walk {
+    Full,
+    Above(KeyBound),
+    Below(KeyBound),
+    Between(KeyBound, KeyBound),
+    Lookup(usize),
+}
+
+// What is shown of an entry: its data digest; its key and its value's digest (`witness_tree`); its key and value (`data_tree`).
+pub enum What {
+    Hide,
+    Label,
+    Show,
+}
+
+// What becomes of a side: no record of its own; Pruned to its subtree digest; walked into.
+pub enum Part {
+    Nothing,
+    Hidden,
+    Walked(Walk),
+}
+
+// An arm of a walk: the three parts that it joins, or `pruned(n.subtree_hash)`.
+pub enum Arm {
+    Fork {
+        left: Part,
+        middle: What,
+        right: Part,
+    },
+    Pruned,
+}
+
+// All that `three_way_fork` looks at in a part.
+pub enum Kind {
+    Empty,
+    Pruned,
+    Other,
+}
+
+// What `three_way_fork` makes of l, m and r.
+pub enum Shape {
+    M,
+    ForkLM,
+    ForkMR,
+    PrunedLMR,
+    ForkLPrunedMR,
+    ForkLForkMR,
+}
+
+// What stands between the sides: the entry, or one Pruned of entry and right side, or of the whole subtree.
+pub enum Middle {
+    Entry(What),
+    Both,
+    Whole,
+}
+
+// The records of a node, in the order in which they are written: [Fork] left [Fork] middle right.
+pub struct Records {
+    pub outer: bool,
+    pub left: Part,
+    pub inner: bool,
+    pub middle: Middle,
+    pub right: Part,
+}
+
+// ---- three_way_fork
+
+fn is_empty(k: Kind) -> bool
+    ensures { λ r. ⌜ r ≡ isEmpty k ⌝ }
+{
+    match k {
+        Kind::Empty => true,
+        Kind::Pruned => false,
+        Kind::Other => false,
+    }
+}
+
+fn is_pruned(k: Kind) -> bool
+    ensures { λ r. ⌜ r ≡ isPruned k ⌝ }
+{
+    match k {
+        Kind::Empty => false,
+        Kind::Pruned => true,
+        Kind::Other => false,
+    }
+}
+
+fn both_empty(l: Kind, r: Kind) -> bool
+    ensures { λ q. ⌜ q ≡ (isEmpty l && isEmpty r) ⌝ }
+{
+    is_empty(l) && is_empty(r)
+}
+
+fn both_pruned(m: Kind, r: Kind) -> bool
+    ensures { λ q. ⌜ q ≡ (isPruned m && isPruned r) ⌝ }
+{
+    is_pruned(m) && is_pruned(r)
+}
+
+fn all_pruned(l: Kind, m: Kind, r: Kind) -> bool
+    ensures { λ q. ⌜ q ≡ (isPruned l && (isPruned m && isPruned r)) ⌝ }
+{
+    is_pruned(l) && both_pruned(m, r)
+}
+
+fn three_way_fork(l: Kind, m: Kind, r: Kind) -> Shape
+    ensures { λ q. ⌜ q ≡ shapeOf l m r ⌝ }
+{
+    if both_empty(l, r) {
+        return Shape::M;
+    }
+    if is_empty(r) {
+        return Shape::ForkLM;
+    }
+    if is_empty(l) {
+        return Shape::ForkMR;
+    }
+    if all_pruned(l, m, r) {
+        return Shape::PrunedLMR;
+    }
+    if both_pruned(m, r) {
+        return Shape::ForkLPrunedMR;
+    }
+    Shape::ForkLForkMR
+}
+
+// A missing child is Empty; a hidden side is Pruned; a side walked into holds a labelled key, so it is neither.
+fn kind_of_part(part: Part, child: usize) -> Kind
+    ensures { λ r. ⌜ r ≡ kindOfPart (eqb child 0) part ⌝ }
+{
+    if child == 0 {
+        return Kind::Empty;
+    }
+    match part {
+        Part::Nothing => Kind::Empty,
+        Part::Hidden => Kind::Pruned,
+        Part::Walked(_) => Kind::Other,
+    }
+}
+
+fn kind_of_what(what: What) -> Kind
+    ensures { λ r. ⌜ r ≡ kindOfWhat what ⌝ }
+{
+    match what {
+        What::Hide => Kind::Pruned,
+        What::Label => Kind::Other,
+        What::Show => Kind::Other,
+    }
+}
+
+// The records of a node whose parts join in this shape.
+fn records_of(shape: Shape, left: Part, middle: What, right: Part) -> Records
+    ensures { λ r. ⌜ r ≡ recordsOf shape left middle right ⌝ }
+{
+    match shape {
+        Shape::M => Records {
+            outer: false,
+            left: Part::Nothing,
+            inner: false,
+            middle: Middle::Entry(middle),
+            right: Part::Nothing,
+        },
+        Shape::ForkLM => Records {
+            outer: true,
+            left,
+            inner: false,
+            middle: Middle::Entry(middle),
+            right: Part::Nothing,
+        },
+        Shape::ForkMR => Records {
+            outer: true,
+            left: Part::Nothing,
+            inner: false,
+            middle: Middle::Entry(middle),
+            right,
+        },
+        Shape::PrunedLMR => whole(),
+        Shape::ForkLPrunedMR => Records {
+            outer: true,
+            left,
+            inner: false,
+            middle: Middle::Both,
+            right: Part::Nothing,
+        },
+        Shape::ForkLForkMR => Records {
+            outer: true,
+            left,
+            inner: true,
+            middle: Middle::Entry(middle),
+            right,
+        },
+    }
+}
+
+// One Pruned of the whole subtree.
+fn whole() -> Records
+    ensures { λ r. ⌜ r ≡ wholeRecords ⌝ }
+{
+    Records {
+        outer: false,
+        left: Part::Nothing,
+        inner: false,
+        middle: Middle::Whole,
+        right: Part::Nothing,
+    }
+}
+
+// ---- bounds
+
+// `lo.as_ref()`, by its slot.
+fn slot_of(b: KeyBound) -> usize
+    ensures { λ r. ⌜ r ≡ slotOf b ⌝ }
+{
+    match b {
+        KeyBound::Exact(i) => i,
+        KeyBound::Neighbor(i) => i,
+    }
+}
+
+// A bound's own entry: a Neighbor always with a Pruned value.
+fn seen_at(b: KeyBound, f: What) -> What
+    ensures { λ r. ⌜ r ≡ seenAt b f ⌝ }
+{
+    match b {
+        KeyBound::Exact(_) => f,
+        KeyBound::Neighbor(_) => What::Label,
+    }
+}
+
+// An entry that is both bounds.
+fn both_seen(lo: KeyBound, hi: KeyBound, f: What) -> What
+    ensures { λ r. ⌜ r ≡ bothSeen lo hi f ⌝ }
+{
+    match lo {
+        KeyBound::Exact(_) => f,
+        KeyBound::Neighbor(_) => seen_at(hi, f),
+    }
+}
+
+// ---- the walks: what becomes of the three parts of the node in slot `n`
+
+fn full_witness_tree(f: What) -> Arm
+    ensures { λ r. ⌜ r ≡ fullArms f ⌝ }
+{
+    Arm::Fork {
+        left: Part::Walked(Walk::Full),
+        middle: f,
+        right: Part::Walked(Walk::Full),
+    }
+}
+
+// How the keys of two slots compare.
+fn compare_keys(s: &[u8], i: usize, j: usize) -> Ordering
+    requires { ⌜ EntryAt (now s) i ⌝ }
+    requires { ⌜ EntryAt (now s) j ⌝ }
+    ensures { λ r. ⌜ r ≡ cmp (keyIn (now (s .entry)) i) (keyIn (now (s .entry)) j) ⌝ }
+{
+    compare(key(s, i), key(s, j))
+}
+
+fn witness_range_above(s: &[u8], n: usize, lo: KeyBound, f: What) -> Arm
+    requires { ⌜ EntryAt (now s) n ⌝ }
+    requires { ⌜ EntryAt (now s) (slotOf lo) ⌝ }
+    ensures { λ r. ⌜ r ≡ aboveArms lo f (cmp (keyIn (now (s .entry)) n) (keyIn (now (s .entry)) (slotOf lo))) ⌝ }
+{
+    match compare_keys(s, n, slot_of(lo)) {
+        Ordering::Equal => Arm::Fork {
+            left: Part::Hidden,
+            middle: seen_at(lo, f),
+            right: Part::Walked(Walk::Full),
+        },
+        Ordering::Less => Arm::Fork {
+            left: Part::Hidden,
+            middle: What::Hide,
+            right: Part::Walked(Walk::Above(lo)),
+        },
+        Ordering::Greater => Arm::Fork {
+            left: Part::Walked(Walk::Above(lo)),
+            middle: f,
+            right: Part::Walked(Walk::Full),
+        },
+    }
+}
+
+fn witness_range_below(s: &[u8], n: usize, hi: KeyBound, f: What) -> Arm
+    requires { ⌜ EntryAt (now s) n ⌝ }
+    requires { ⌜ EntryAt (now s) (slotOf hi) ⌝ }
+    ensures { λ r. ⌜ r ≡ belowArms hi f (cmp (keyIn (now (s .entry)) n) (keyIn (now (s .entry)) (slotOf hi))) ⌝ }
+{
+    match compare_keys(s, n, slot_of(hi)) {
+        Ordering::Equal => Arm::Fork {
+            left: Part::Walked(Walk::Full),
+            middle: seen_at(hi, f),
+            right: Part::Hidden,
+        },
+        Ordering::Greater => Arm::Fork {
+            left: Part::Walked(Walk::Below(hi)),
+            middle: What::Hide,
+            right: Part::Hidden,
+        },
+        Ordering::Less => Arm::Fork {
+            left: Part::Walked(Walk::Full),
+            middle: f,
+            right: Part::Walked(Walk::Below(hi)),
+        },
+    }
+}
+
+// The Rust's arms on (lo.cmp(k), k.cmp(hi)); its wildcards are written out.
+fn witness_range_between(s: &[u8], n: usize, lo: KeyBound, hi: KeyBound, f: What) -> Arm
+    requires { ⌜ EntryAt (now s) n ⌝ }
+    requires { ⌜ EntryAt (now s) (slotOf lo) ⌝ }
+    requires { ⌜ EntryAt (now s) (slotOf hi) ⌝ }
+    ensures { λ r. ⌜ r ≡ betweenArms lo hi f (cmp (keyIn (now (s .entry)) (slotOf lo)) (keyIn (now (s .entry)) n)) (cmp (keyIn (now (s .entry)) n) (keyIn (now (s .entry)) (slotOf hi))) ⌝ }
+{
+    between(
+        lo,
+        hi,
+        f,
+        compare_keys(s, slot_of(lo), n),
+        compare_keys(s, n, slot_of(hi)),
+    )
+}
+
+fn between(lo: KeyBound, hi: KeyBound, f: What, low: Ordering, high: Ordering) -> Arm
+    ensures { λ r. ⌜ r ≡ betweenArms lo hi f low high ⌝ }
+{
+    let go = Part::Walked(Walk::Between(lo, hi));
+    match low {
+        Ordering::Less => match high {
+            // (Less, Less)
+            Ordering::Less => Arm::Fork {
+                left: go,
+                middle: f,
+                right: go,
+            },
+            // (_, Equal)
+            Ordering::Equal => Arm::Fork {
+                left: go,
+                middle: seen_at(hi, f),
+                right: Part::Hidden,
+            },
+            // (Less, Greater)
+            Ordering::Greater => Arm::Fork {
+                left: go,
+                middle: What::Hide,
+                right: Part::Hidden,
+            },
+        },
+        Ordering::Equal => match high {
+            // (Equal, Equal)
+            Ordering::Equal => Arm::Fork {
+                left: Part::Hidden,
+                middle: both_seen(lo, hi, f),
+                right: Part::Hidden,
+            },
+            // (Equal, _)
+            Ordering::Less => Arm::Fork {
+                left: Part::Hidden,
+                middle: seen_at(lo, f),
+                right: go,
+            },
+            Ordering::Greater => Arm::Fork {
+                left: Part::Hidden,
+                middle: seen_at(lo, f),
+                right: go,
+            },
+        },
+        Ordering::Greater => match high {
+            // (_, Equal)
+            Ordering::Equal => Arm::Fork {
+                left: go,
+                middle: seen_at(hi, f),
+                right: Part::Hidden,
+            },
+            // (Greater, Less)
+            Ordering::Less => Arm::Fork {
+                left: Part::Hidden,
+                middle: What::Hide,
+                right: go,
+            },
+            // _
+            Ordering::Greater => Arm::Pruned,
+        },
+    }
+}
+
+// Of the present key that stands in slot `i`.
+fn lookup_and_build_witness(s: &[u8], n: usize, i: usize) -> Arm
+    requires { ⌜ EntryAt (now s) n ⌝ }
+    requires { ⌜ EntryAt (now s) i ⌝ }
+    ensures { λ r. ⌜ r ≡ lookupArms i (cmp (keyIn (now (s .entry)) i) (keyIn (now (s .entry)) n)) ⌝ }
+{
+    match compare_keys(s, i, n) {
+        Ordering::Equal => Arm::Fork {
+            left: Part::Hidden,
+            middle: What::Show,
+            right: Part::Hidden,
+        },
+        Ordering::Less => Arm::Fork {
+            left: Part::Walked(Walk::Lookup(i)),
+            middle: What::Hide,
+            right: Part::Hidden,
+        },
+        Ordering::Greater => Arm::Fork {
+            left: Part::Hidden,
+            middle: What::Hide,
+            right: Part::Walked(Walk::Lookup(i)),
+        },
+    }
+}
+
+fn arm_at(s: &[u8], n: usize, walk: Walk, f: What) -> Arm
+    requires { ⌜ EntryAt (now s) n ⌝ }
+    requires { ⌜ BoundsIn (now s) walk ⌝ }
+    ensures { λ r. ⌜ r ≡ armsAt (keyIn (now (s .entry))) walk f (keyIn (now (s .entry)) n) ⌝ }
+{
+    match walk {
+        Walk::Full => full_witness_tree(f),
+        Walk::Above(lo) => witness_range_above(s, n, lo, f),
+        Walk::Below(hi) => witness_range_below(s, n, hi, f),
+        Walk::Between(lo, hi) => witness_range_between(s, n, lo, hi, f),
+        Walk::Lookup(i) => lookup_and_build_witness(s, n, i),
+    }
+}
+
+// The records of the node in slot `n`.
+pub fn records_at(s: &[u8], n: usize, walk: Walk, f: What) -> Records
+    requires { ⌜ EntryAt (now s) n ⌝ }
+    requires { ⌜ BoundsIn (now s) walk ⌝ }
+    ensures { λ r. ⌜ r ≡ recordsIn (now (s .entry)) n walk f ⌝ }
+{
+    let Arm::Fork {
+        left,
+        middle,
+        right,
+    } = arm_at(s, n, walk, f) else {
+        return whole();
+    };
+    let l = kind_of_part(left, slots::left(s, n));
+    let m = kind_of_what(middle);
+    let r = kind_of_part(right, slots::right(s, n));
+    records_of(three_way_fork(l, m, r), left, middle, right)
+}
