@@ -29,7 +29,10 @@ fn digests() {
     line(&empty_hash(), b"hash tree: Empty");
     line(&hidden(), b"hash tree: the part cut under a");
     line(&leaf_hash(b"good"), b"hash tree: the leaf cut under b");
-    line(&labeled_hash(b"c", &empty_hash()), b"hash tree: the part cut, c");
+    line(
+        &labeled_hash(b"c", &empty_hash()),
+        b"hash tree: the part cut, c",
+    );
     line(&root(), b"hash tree: root of the worked tree");
 }
 

@@ -1,11 +1,10 @@
 -- The bytes of an entry, piece by piece, and their lengths. Assumes nothing.
 use Prim.Native.Nat.{ℕ, _+_, _≤_}
-use mathlib.Core.Path.{_≡_, refl, sym, ap, _∙_}
+use mathlib.Core.Path.{_≡_, refl, sym}
 use mathlib.Core.Bool.{Bool, true, false, cond}
-use mathlib.Core.List.{List, [], _∷_, _++_}
+use mathlib.Core.List.{List, [], _++_}
 use native.Mathlib.Omega.{arith}
-use lib.Dec.{eqb}
-use lib.ListN.{length, take, length-take}
+use lib.ListN.{length, length-take}
 use Rattle.hash_tree.specs.HashTree.{forkHash, leafHash}
 use Rattle.hash_tree.specs.Written.{piece, write}
 use Rattle.hash_tree.specs.ParseLaws.{length-piece, length-write}
@@ -15,10 +14,10 @@ use Rattle.slots.specs.Layout.{HasSlot, slot, digestOf, keyOf, valueOf}
 use Rattle.slots.proofs.Lenses.{digest-length}
 use Rattle.witness_trees.specs.Shown.{item}
 use Rattle.witness_walks.specs.declared.What.the-variants.{Hide, Label, Show}
-use Rattle.witness_walks.specs.declared.Middle.the-variants.{Entry, Both, Whole}
+use Rattle.witness_walks.specs.declared.Middle.the-variants.{Both, Whole}
 use Rattle.search.specs.Search.{EntryAt}
 use Rattle.witness_walks.specs.Walked.{whatOf}
-use Rattle.witness_walks.specs.InStore.{entryIn, shownIn, middleIn, hiddenIn, HiddenAt, hiddenLen}
+use Rattle.witness_walks.specs.InStore.{entryIn, shownIn, middleIn}
 
 module _ (s : List ℕ) (n : ℕ) where
   pub key-short : EntryAt s n → length (keyOf (slot s n)) ≤ 48

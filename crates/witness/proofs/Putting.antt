@@ -1,5 +1,5 @@
 -- Bytes put one after the other, and the room that they leave, over plain lists. Assumes nothing.
-use Prim.Native.Nat.{ℕ, zero, suc, _+_, _-_, _<_, _≤_}
+use Prim.Native.Nat.{ℕ, suc, _+_, _-_, _<_, _≤_}
 use mathlib.Core.Path.{_≡_, refl, sym, ap, _∙_}
 use mathlib.Core.Bool.{Bool, true, false}
 use mathlib.Core.List.{List, [], _∷_, _++_}
@@ -8,7 +8,7 @@ use native.Mathlib.Numerals.{add-one}
 use native.Mathlib.Nat.{add-zero, add-suc, suc-add, sub-zero}
 use lib.Dec.{leb}
 use lib.ListN.{length, take, set, getD, length-append}
-use lib.Seq.{sets, sets-eq, take-suc, length-take-le, length-sets}
+use lib.Seq.{sets, take-suc, length-take-le, length-sets}
 use borrow.Author.Tests.{leb-true, leb-false, le-leb, lt-leb}
 use Rattle.hash_tree.specs.Written.{head, piece}
 use Rattle.witness.specs.declared.Room.{Room}
@@ -62,6 +62,7 @@ room-then a b (Left m) = first (leb a m) refl
         let g : m - a < b = leb-false b (m - a) f in
         let z : leb (a + b) m ≡ false = lt-leb (a + b) m (omega arith) in
         rw z
+
     first : (t : Bool) → leb a m ≡ t → roomAfter b (pickRoom t (Left (m - a)) Short) ≡ roomAfter (a + b) (Left m)
     first true e = second (leb-true a m e) (leb b (m - a)) refl
     first false e =

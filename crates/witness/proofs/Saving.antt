@@ -1,41 +1,39 @@
 -- From the bytes that were put to what the calls answer on a sound store. Assumes nothing.
 use Prim.Native.Nat.{ℕ, _+_, _≤_, _<_}
 use mathlib.Core.Path.{_≡_, refl, sym, ap, subst, _∙_}
-use mathlib.Core.Logic.{_⊎_, inl, inr}
-use mathlib.Core.Bool.{Bool, true, false, cond, _||_, true≢false}
-use mathlib.Core.List.{List, [], _∷_, _++_}
+use mathlib.Core.Logic.{inl}
+use mathlib.Core.Bool.{false, true≢false}
+use mathlib.Core.List.{List, _++_}
 use mathlib.Core.Option.{Option, none, some}
 use native.Mathlib.Omega.{arith}
 use native.Mathlib.Nat.{zero-add}
 use borrow.Author.Tests.{le-ltb, lt-ltb}
-use lib.Dec.{ltb}
 use lib.ListN.{length, drop}
-use lib.Seq.{sets, sets-eq}
+use lib.Seq.{sets-eq}
 use Rattle.key_order.specs.declared.Ordering.{Ordering}
 use Rattle.key_order.specs.declared.Ordering.the-variants.{Less, Equal, Greater}
 use Rattle.key_order.specs.Order.{Key, cmp, pick}
 use Rattle.key_order.proofs.Laws.{lt-gt, cmp-eq}
 use Rattle.hash_tree.specs.HashTree.{HashTree}
 use Rattle.hash_tree.specs.Written.{write}
-use Rattle.slots.specs.Layout.{header, slot, keyOf}
+use Rattle.slots.specs.Layout.{header, slot}
 use Rattle.llrb.specs.Tree.{Entry, Tree, nil, node, entries, get}
 use Rattle.llrb.specs.Sorted.{Sorted, Mem}
 use Rattle.llrb.proofs.Get.{get-find, find-some, find-none}
 use Rattle.store.specs.Numbers.{Outcome, refused, done, NotSound}
 use Rattle.store.specs.Model.{Model}
 use Rattle.store.specs.Sound.{Represents, Sound}
-use Rattle.store.specs.Decide.{onSound}
-use Rattle.store.specs.Answers.{Written, written, fitting}
-use Rattle.store.specs.Calls.{reversed, longKey, ofKey, ofRange, witnessed, asHashTreeAnswer, keysAnswer, witnessAnswer, keyRangeAnswer, valueRangeAnswer, keysWithPrefixAnswer}
+use Rattle.store.specs.Answers.{fitting}
+use Rattle.store.specs.Calls.{reversed, ofKey, ofRange, witnessed, asHashTreeAnswer, keysAnswer, witnessAnswer, keyRangeAnswer, valueRangeAnswer, keysWithPrefixAnswer}
 use Rattle.store.proofs.Decoding.{on-sound}
 use Rattle.witness_trees.specs.Shown.{threeWayFork}
 use Rattle.witness_trees.specs.Witness.{Form, keysOnly, values, KeyBound, Exact, Neighbor, at, lowerBound, upperBound, rightPrefixNeighbor, lastArm, fullWitnessTree, rangeWitness, lookupAndBuildWitness, orTree, asHashTree, keys, keyRange, valueRange, keysWithPrefix, witness}
-use Rattle.witness_trees.specs.Rules.{In, Le}
+use Rattle.witness_trees.specs.Rules.{Le}
 use Rattle.witness_trees.proofs.Bounds.{lower-is, upper-is, past-is}
 use Rattle.witness_trees.proofs.Lists.{mem-in, lt-irr}
 use Rattle.witness_trees.proofs.Walks.{look-none}
 use Rattle.witness_trees.proofs.Calls.{Present, InOrder, join-same, low-present, high-present, past-present, bounds-in-order, prefix-in-order}
-use Rattle.search.specs.Search.{Each, Stored, OfEntry, OfBound, EntryAt, Lies, foundSlot, boundSlot, keyBoundSlot}
+use Rattle.search.specs.Search.{Each, Stored, OfBound, EntryAt, Lies, foundSlot, boundSlot}
 use Rattle.search.specs.declared.Found.{Found}
 use Rattle.search.specs.declared.Found.the-variants as found
 use Rattle.search.specs.declared.Bound.{Bound}
@@ -43,11 +41,10 @@ use Rattle.search.specs.declared.Bound.the-variants as bound
 use Rattle.search.proofs.Lying.{all-stored, represents-lies}
 use Rattle.search.proofs.Finding.{low-each, high-each, past-each, get-each}
 use Rattle.witness_walks.specs.declared.Walk.{Walk}
-use Rattle.witness_walks.specs.declared.Walk.the-variants.{Full, Above, Below, Between, Lookup}
+use Rattle.witness_walks.specs.declared.Walk.the-variants.{Full, Lookup}
 use Rattle.witness_walks.specs.declared.What.the-variants.{Label, Show}
 use Rattle.witness_walks.specs.declared.Part.the-variants.{Walked}
-use Rattle.witness_walks.specs.Arms.{slotOf}
-use Rattle.witness_walks.specs.Walked.{showing, partTree}
+use Rattle.witness_walks.specs.Walked.{showing}
 use Rattle.witness_walks.specs.InStore.{keyIn, BoundsIn}
 use Rattle.witness_walks.specs.Bounds.{walkBetween, rangeWalk}
 use Rattle.witness_walks.proofs.Reached.{Reached}
@@ -182,10 +179,10 @@ module _ {s : List ℕ} {m : Model} (rep : Represents s m) where
       by-entry (λ j. bytesBelow s Show (Walked (Lookup j)) tree ≡ write (orTree (lookupAndBuildWitness threeWayFork lastArm key tree) (rangeWitness threeWayFork lastArm (lowerBound key tree) (upperBound key tree) keysOnly tree)))
       (get key tree) refl f
       (λ e h.
-        let k = found-key key e h in
-        let m : Mem (keyIn s (e .slot)) (entries tree) = rw (k .0) (k .2) in
-        part-bytes (keyIn s) values tree (Walked (Lookup (e .slot))) (ordered, m)
-        ∙ rw (ap (λ (z : Key). lookupAndBuildWitness threeWayFork lastArm z tree) (sym (k .0)) ∙ walk-lookup (keyIn s) Show (e .slot) tree ordered m))
+      let k = found-key key e h in
+      let m : Mem (keyIn s (e .slot)) (entries tree) = rw (k .0) (k .2) in
+      part-bytes (keyIn s) values tree (Walked (Lookup (e .slot))) (ordered, m)
+      ∙ rw (ap (λ (z : Key). lookupAndBuildWitness threeWayFork lastArm z tree) (sym (k .0)) ∙ walk-lookup (keyIn s) Show (e .slot) tree ordered m))
 
   pub absent-witness : (key : Key) → foundSlot (get key tree) ≡ found.Nothing
       → rangeWitness threeWayFork lastArm (lowerBound key tree) (upperBound key tree) keysOnly tree ≡ witness key tree
@@ -251,7 +248,7 @@ module _ {s : List ℕ} (p : Sound s) {x : ℕ} (ex : x ≡ header s .root) wher
       range-saved w h v =
           v map at-hand ∙ ap (putFront o)
           (ap (λ (y : Walk). bytesBelow s (showing w) (Walked y) map) (ap (λ (y : Bound). walkBetween y hi) (a map (at-hand .lies)) ∙ ap (walkBetween (boundSlot (lowerBound first map))) (b map (at-hand .lies)))
-            ∙ between-bytes (p .1) first last w h)
+          ∙ between-bytes (p .1) first last w h)
 
       module _ (k : length first ≤ 48) (l : length last ≤ 48) (h : reversed first last ≡ false) where
         pub key-range-answer : Saves s x (walkBetween lo hi) Label o o′ r → answered r o′ ≡ keyRangeAnswer first last s o
@@ -268,8 +265,8 @@ module _ {s : List ℕ} (p : Sound s) {x : ℕ} (ex : x ≡ header s .root) wher
     prefix-answer prefix a b k v =
         answer (p .1) o _ (ofKey keysWithPrefix prefix) (keysWithPrefix prefix map) (rw (le-ltb 48 (length prefix) k)) refl
         (v map at-hand ∙ ap (putFront o)
-          (ap (λ (y : Walk). bytesBelow s Label (Walked y) map) (ap (λ (y : Bound). walkBetween y hi) (a map (at-hand .lies)) ∙ ap (walkBetween (boundSlot (lowerBound prefix map))) (b map (at-hand .lies)))
-            ∙ prefix-bytes (p .1) prefix))
+        (ap (λ (y : Walk). bytesBelow s Label (Walked y) map) (ap (λ (y : Bound). walkBetween y hi) (a map (at-hand .lies)) ∙ ap (walkBetween (boundSlot (lowerBound prefix map))) (b map (at-hand .lies)))
+        ∙ prefix-bytes (p .1) prefix))
 
     pub absent-answer : (key : Key) → foundSlot (get key map) ≡ found.Nothing
         → ((t : Tree) → Lies s x t → lo ≡ boundSlot (lowerBound key t)) → ((t : Tree) → Lies s x t → hi ≡ boundSlot (upperBound key t))

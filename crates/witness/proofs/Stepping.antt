@@ -1,24 +1,19 @@
 -- A node of the tree that is written: what is known at it, its five runs of bytes, and that the entries below it grow fewer.
 -- Assumes nothing.
 use Prim.Native.Nat.{ℕ, _+_, _≤_, _<_}
-use mathlib.Core.Path.{_≡_, refl, sym, ap, subst, _∙_}
-use mathlib.Core.Bool.{Bool, true, false, cond, _&&_}
-use mathlib.Core.List.{List, [], _∷_, _++_}
+use mathlib.Core.Path.{_≡_, refl, sym, ap, _∙_}
+use mathlib.Core.Bool.{Bool}
+use mathlib.Core.List.{List, [], _++_}
 use native.Mathlib.Omega.{arith}
 use lib.Dec.{eqb}
 use lib.ListN.{length, length-append}
-use Rattle.key_order.specs.declared.Ordering.{Ordering}
-use Rattle.key_order.specs.declared.Ordering.the-variants.{Less, Equal, Greater}
 use Rattle.key_order.specs.Order.{Key, cmp}
 use Rattle.hash_tree.specs.Written.{piece, write}
-use Rattle.slots.specs.Layout.{HasSlot, slot, digestOf}
-use Rattle.llrb.specs.Tree.{Tree, nil, node, left, right, size}
-use Rattle.llrb.specs.Digests.{isNil}
-use Rattle.store.specs.Sound.{Digests}
-use Rattle.search.specs.Search.{Lies, EntryAt, entriesBelow}
+use Rattle.slots.specs.Layout.{slot}
+use Rattle.llrb.specs.Tree.{Tree, nil, node, left, right}
+use Rattle.search.specs.Search.{EntryAt, entriesBelow}
 use Rattle.search.proofs.Lying.{top-entry, top-in, lies-left, lies-right, below-lies}
 use Rattle.llrb.proofs.Height.{size-node}
-use Rattle.search.specs.declared.KeyBound.{KeyBound}
 use Rattle.witness_walks.specs.declared.Walk.{Walk}
 use Rattle.witness_walks.specs.declared.Walk.the-variants as walk
 use Rattle.witness_walks.specs.declared.What.{What}
@@ -33,7 +28,7 @@ use Rattle.witness_walks.specs.Arms.{slotOf, armsAt}
 use Rattle.witness_walks.specs.Records.{kindOfPart, kindOfWhat, shapeOf, recordsOf, recordsAt}
 use Rattle.witness_walks.specs.Walked.{forkBytes, partBytes}
 use Rattle.witness_walks.specs.InStore.{keyIn, BoundsIn, PartIn, recordsIn, middleIn, MiddleAt, hiddenIn, HiddenAt}
-use Rattle.witness_walks.proofs.Laying.{nil-zero, records-held, middle-held, hidden-held}
+use Rattle.witness_walks.proofs.Laying.{records-held, middle-held, hidden-held}
 use Rattle.witness_trees.proofs.Lists.{arms}
 use Rattle.witness.specs.declared.Room.{Room}
 use Rattle.witness.specs.Putting.{Puts, roomAfter, Laid, bytesBelow}

@@ -2,11 +2,11 @@
 -- Assumes nothing.
 use mathlib.Core.Path.{_≡_, refl, sym, ap, _∙_}
 use mathlib.Core.Bool.{Bool, true, false, cond, _&&_, true≢false}
-use mathlib.Core.List.{List, [], _∷_, _++_, append-nil, append-assoc}
+use mathlib.Core.List.{List, [], append-nil}
 use Prim.Native.Nat.{ℕ}
-use Rattle.hash_tree.specs.HashTree.{HashTree, Empty, Fork, Labeled, Leaf, Pruned, forkHash, digest}
+use Rattle.hash_tree.specs.HashTree.{HashTree, Fork, Pruned, forkHash, digest}
 use Rattle.hash_tree.specs.Written.{piece, write}
-use Rattle.llrb.specs.Tree.{Entry, Tree, nil, node}
+use Rattle.llrb.specs.Tree.{Entry, Tree, node}
 use Rattle.llrb.specs.Digests.{dataDigest, subtreeDigest}
 use Rattle.witness_trees.specs.Reading.{isEmpty, isPruned}
 use Rattle.witness_trees.specs.Shown.{threeWayFork, three, item}
@@ -51,8 +51,8 @@ join-cases P l m r p₁ p₂ p₃ p₄ p₅ p₆ = go (isEmpty l) (isEmpty r) (t
   where
     go : (a b c d : Bool) → isEmpty l ≡ a → isEmpty r ≡ b → three l m r ≡ c → (isPruned m && isPruned r) ≡ d
         → P (cond (a && b) m (cond b (Fork l m) (cond a (Fork m r)
-          (cond c (Pruned (forkHash (digest l) (forkHash (digest m) (digest r))))
-          (cond d (Fork l (Pruned (forkHash (digest m) (digest r)))) (Fork l (Fork m r)))))))
+        (cond c (Pruned (forkHash (digest l) (forkHash (digest m) (digest r))))
+        (cond d (Fork l (Pruned (forkHash (digest m) (digest r)))) (Fork l (Fork m r)))))))
     go true true c d x y u v = p₁ x y
     go true false c d x y u v = p₃ x y
     go false true c d x y u v = p₂ x y
@@ -74,7 +74,6 @@ module _ (l r : Part) (m : What) (e : Entry) (t : Tree) (u v : HashTree) (kl kr 
     (nl : bl Nothing ≡ []) (nr : br Nothing ≡ []) (wl : bl l ≡ write u) (wr : br r ≡ write v)
     (one : isPruned u ≡ true → isPruned v ≡ true → subtreeDigest t ≡ forkHash (digest u) (forkHash (dataDigest e) (digest v)))
     (both : isPruned v ≡ true → middleBytes Both e t ≡ piece 4 (forkHash (dataDigest e) (digest v))) where
-
   abbrev mid : HashTree
   mid = item (whatOf m) e
 
@@ -90,12 +89,12 @@ module _ (l r : Part) (m : What) (e : Entry) (t : Tree) (u v : HashTree) (kl kr 
       (λ x y. rw (sym (hl .empty) ∙ x, sym (hr .empty) ∙ y, nr, wl, append-nil (write mid)))
       (λ x y. rw (sym (hl .empty) ∙ x, sym (hr .empty) ∙ y, nl, wr))
       (λ x y z.
-        let p = and-true (isPruned u) (isPruned mid && isPruned v) z in
-        let q = and-true (isPruned mid) (isPruned v) (p .1) in
-        rw (sym (hl .empty) ∙ x, sym (hr .empty) ∙ y, sym (hl .pruned) ∙ p .0, sym (km .pruned) ∙ q .0, sym (hr .pruned) ∙ q .1, nl, nr, digest-what m e)
-        (ap (λ d. piece 4 d) (sym (one (p .0) (q .1))) ∙ sym (append-nil (piece 4 (subtreeDigest t)))))
+      let p = and-true (isPruned u) (isPruned mid && isPruned v) z in
+      let q = and-true (isPruned mid) (isPruned v) (p .1) in
+      rw (sym (hl .empty) ∙ x, sym (hr .empty) ∙ y, sym (hl .pruned) ∙ p .0, sym (km .pruned) ∙ q .0, sym (hr .pruned) ∙ q .1, nl, nr, digest-what m e)
+      (ap (λ d. piece 4 d) (sym (one (p .0) (q .1))) ∙ sym (append-nil (piece 4 (subtreeDigest t)))))
       (λ x y n z.
-        let q = and-true (isPruned mid) (isPruned v) z in
-        let w : isPruned u ≡ false = sym (and-one (isPruned u)) ∙ rw z at n in
-        rw (sym (hl .empty) ∙ x, sym (hr .empty) ∙ y, pair true z, sym (hl .pruned) ∙ w, nr, wl, both (q .1), digest-what m e, append-nil (piece 4 (forkHash (dataDigest e) (digest v)))))
+      let q = and-true (isPruned mid) (isPruned v) z in
+      let w : isPruned u ≡ false = sym (and-one (isPruned u)) ∙ rw z at n in
+      rw (sym (hl .empty) ∙ x, sym (hr .empty) ∙ y, pair true z, sym (hl .pruned) ∙ w, nr, wl, both (q .1), digest-what m e, append-nil (piece 4 (forkHash (dataDigest e) (digest v)))))
       (λ x y z. rw (sym (hl .empty) ∙ x, sym (hr .empty) ∙ y, pair false z, and-false (kindPruned kl), wl, wr))

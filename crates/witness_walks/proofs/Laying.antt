@@ -2,40 +2,36 @@
 -- Assumes nothing.
 use mathlib.Core.Path.{_≡_, refl, sym, ap, _∙_}
 use mathlib.Core.Bool.{Bool, true, false, cond, _&&_, true≢false}
-use mathlib.Core.List.{List, [], _∷_, _++_}
-use Prim.Native.Nat.{ℕ, _+_, _≤_}
+use mathlib.Core.List.{List}
+use Prim.Native.Nat.{ℕ}
 use native.Mathlib.Omega.{arith}
 use borrow.Author.Tests.{eq-eqb, ne-eqb}
 use lib.Dec.{eqb}
 use lib.ListN.{length}
-use Rattle.key_order.specs.Order.{Key, cmp}
-use Rattle.hash_tree.specs.HashTree.{forkHash}
-use Rattle.hash_tree.specs.Written.{piece, write}
-use Rattle.slots.specs.Layout.{HasSlot, Slot, slot, digestOf, keyOf, valueOf}
+use Rattle.hash_tree.specs.Written.{write}
+use Rattle.slots.specs.Layout.{HasSlot, slot, digestOf, valueOf}
 use Rattle.llrb.specs.Tree.{Entry as TheEntry, Tree, nil, node}
 use Rattle.llrb.specs.Digests.{isNil, dataDigest, subtreeDigest}
 use Rattle.store.specs.Model.{root}
-use Rattle.store.specs.Sound.{Nodes, Digests}
+use Rattle.store.specs.Sound.{Digests}
 use Rattle.slots.proofs.Writing.{node-value}
-use Rattle.search.specs.Search.{Lies, EntryAt}
-use Rattle.search.proofs.Lying.{slot-top, top-entry, top-in, top-key, lies-left, lies-right}
+use Rattle.search.specs.Search.{Lies}
+use Rattle.search.proofs.Lying.{slot-top, top-in, top-key, lies-left, lies-right}
 use Rattle.witness_trees.specs.Shown.{item}
 use Rattle.witness_trees.specs.Witness.{prunedTree}
 use Rattle.witness_walks.specs.declared.What.{What}
 use Rattle.witness_walks.specs.declared.What.the-variants.{Hide, Label, Show}
 use Rattle.witness_walks.specs.declared.Walk.{Walk}
 use Rattle.witness_walks.specs.declared.Part.{Part}
-use Rattle.witness_walks.specs.declared.Part.the-variants.{Nothing, Hidden, Walked}
 use Rattle.witness_walks.specs.declared.Arm.{Arm}
 use Rattle.witness_walks.specs.declared.Arm.the-variants.{Fork, Pruned}
 use Rattle.witness_walks.specs.declared.Shape.{Shape}
 use Rattle.witness_walks.specs.declared.Shape.the-variants.{M, ForkLM, ForkMR, PrunedLMR, ForkLPrunedMR, ForkLForkMR}
 use Rattle.witness_walks.specs.declared.Middle.{Middle}
 use Rattle.witness_walks.specs.declared.Middle.the-variants.{Entry, Both, Whole}
-use Rattle.witness_walks.specs.declared.Records.{Records}
 use Rattle.witness_walks.specs.Arms.{armsAt}
-use Rattle.witness_walks.specs.Records.{isEmpty, isPruned, kindOfPart, kindOfWhat, shapeOf, recordsOf, recordsAt}
-use Rattle.witness_walks.specs.Walked.{whatOf, middleBytes, partBytes}
+use Rattle.witness_walks.specs.Records.{isEmpty, kindOfPart, kindOfWhat, shapeOf, recordsOf, recordsAt}
+use Rattle.witness_walks.specs.Walked.{whatOf, middleBytes}
 use Rattle.witness_walks.specs.InStore.{keyIn, entryIn, recordsIn, shownIn, middleIn, MiddleAt, hiddenIn}
 
 -- a slot is 0 exactly where no tree is
@@ -107,8 +103,8 @@ module _ {s : List ℕ} {h : ℕ} {c : Bool} {e : TheEntry} {l r : Tree} (a : Li
   middle-held d walk f =
       rw (records-held walk f)
       (middle-cases (λ x. (middleIn s h x ≡ middleBytes x e (node c e l r)) × MiddleAt s h x) (armsAt (keyIn s) walk f (e .key)) (isNil l) (isNil r)
-        (λ m. (shown-held m, tt))
-        (λ q.
-          let k = lies-right a refl in
-          (rw (data-held, digest-held r k (d .2) q), in-held r k q))
-        (rw (digest-held (node c e l r) a d refl), tt))
+      (λ m. (shown-held m, tt))
+      (λ q.
+      let k = lies-right a refl in
+      (rw (data-held, digest-held r k (d .2) q), in-held r k q))
+      (rw (digest-held (node c e l r) a d refl), tt))

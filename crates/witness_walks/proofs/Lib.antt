@@ -4,3 +4,4 @@ pub mod Reached
 pub mod Writing
 pub mod Walking
 pub mod Laying
+pub mod Never

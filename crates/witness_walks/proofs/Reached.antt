@@ -1,14 +1,11 @@
 -- What holds where a walk arrives: its bound is in the subtree or beyond its near end. It passes down, so the last arm of
 -- witness_range_between is never taken, and a side that is walked into is Empty or shows a key: its kind is known before it is written.
 -- Assumes nothing.
-use mathlib.Core.Path.{_≡_, refl, sym, ap, _∙_}
+use mathlib.Core.Path.{_≡_, refl, sym, _∙_}
 use mathlib.Core.Logic.{_⊎_, inl, inr}
-use mathlib.Core.Bool.{Bool, true, false, cond, _&&_, true≢false}
-use mathlib.Core.List.{List, [], _∷_, _++_}
+use mathlib.Core.Bool.{Bool, true, false, _&&_, true≢false}
 use Prim.Native.Nat.{ℕ}
-use Rattle.key_order.specs.declared.Ordering.{Ordering}
-use Rattle.key_order.specs.declared.Ordering.the-variants.{Less, Equal, Greater}
-use Rattle.key_order.specs.Order.{Key, cmp, pick}
+use Rattle.key_order.specs.Order.{Key, cmp}
 use Rattle.key_order.proofs.Laws.{cmp-eq, cmp-trans, gt-lt}
 use Rattle.hash_tree.specs.HashTree.{HashTree, digest}
 use Rattle.llrb.specs.Tree.{Entry, Tree, nil, node, entries}
@@ -32,7 +29,7 @@ use Rattle.witness_walks.specs.declared.Arm.{Arm}
 use Rattle.witness_walks.specs.declared.Arm.the-variants.{Fork, Pruned}
 use Rattle.witness_walks.specs.declared.Kind.the-variants.{Other}
 use Rattle.witness_walks.specs.Arms.{slotOf, seenAt, bothSeen, armsAt}
-use Rattle.witness_walks.specs.Records.{isEmpty as kindEmpty, isPruned as kindPruned, kindOfPart, kindOfWhat, recordsAt}
+use Rattle.witness_walks.specs.Records.{isEmpty as kindEmpty, isPruned as kindPruned, kindOfPart, kindOfWhat}
 use Rattle.witness_walks.specs.Walked.{whatOf, showing, joined, partTree}
 use Rattle.witness_walks.proofs.Joining.{IsKind, what-kind, join-cases, and-true}
 
@@ -51,13 +48,13 @@ ReachedPart K Hidden t = Unit {0}
 ReachedPart K (Walked w) t = Reached K w t
 
 -- walked into, and there is something
-abbrev Enters : Part → Tree → Type 0
+abbrev pub Enters : Part → Tree → Type 0
 Enters Nothing t = ⊥
 Enters Hidden t = ⊥
 Enters (Walked w) nil = ⊥
 Enters (Walked w) (node c e l r) = Unit {0}
 
-abbrev Loud : What → Type 0
+abbrev pub Loud : What → Type 0
 Loud m = kindPruned (kindOfWhat m) ≡ false
 
 -- the parts of an arm are reached, and it shows its entry or goes on; the last arm is not one of these
@@ -111,22 +108,22 @@ goes K w (Between lo hi) c e l r (ord, s, a, b) =
     let sr = sorted-r L e R s in
     arms (λ x. Goes K x l r) (cmp j (e .key))
     (λ p.
-      let al = lo-left j L e R s p a in
-      arms (λ x. Goes K x l r) (cmp (e .key) k)
-      (λ q. ((ord, sl, al, hi-left k L e R s q), (ord, sr, lo-right j L e R s p, hi-right k L e R s q b), inl (showing-loud w)))
-      (λ q. ((ord, sl, al, hi-start k L e R s q), tt, inl (seen-loud hi w)))
-      (λ q. let m = hi-mem k L e R s (gt-lt (e .key) k q) b in ((ord, sl, al, inl m), tt, inr (inl (mem-enters k (Between lo hi) l m)))))
+    let al = lo-left j L e R s p a in
+    arms (λ x. Goes K x l r) (cmp (e .key) k)
+    (λ q. ((ord, sl, al, hi-left k L e R s q), (ord, sr, lo-right j L e R s p, hi-right k L e R s q b), inl (showing-loud w)))
+    (λ q. ((ord, sl, al, hi-start k L e R s q), tt, inl (seen-loud hi w)))
+    (λ q. let m = hi-mem k L e R s (gt-lt (e .key) k q) b in ((ord, sl, al, inl m), tt, inr (inl (mem-enters k (Between lo hi) l m)))))
     (λ p.
-      arms (λ x. Goes K x l r) (cmp (e .key) k)
-      (λ q. (tt, (ord, sr, lo-start j L e R s p, hi-right k L e R s q b), inl (seen-loud lo w)))
-      (λ q. (tt, tt, inl (both-loud lo hi w)))
-      (λ q. absurd (ord (rw (cmp-eq j (e .key) p) (gt-lt (e .key) k q)))))
+    arms (λ x. Goes K x l r) (cmp (e .key) k)
+    (λ q. (tt, (ord, sr, lo-start j L e R s p, hi-right k L e R s q b), inl (seen-loud lo w)))
+    (λ q. (tt, tt, inl (both-loud lo hi w)))
+    (λ q. absurd (ord (rw (cmp-eq j (e .key) p) (gt-lt (e .key) k q)))))
     (λ p.
-      let u = gt-lt j (e .key) p in
-      arms (λ x. Goes K x l r) (cmp (e .key) k)
-      (λ q. let m = lo-mem j L e R s u a in (tt, (ord, sr, inl m, hi-right k L e R s q b), inr (inr (mem-enters j (Between lo hi) r m))))
-      (λ q. absurd (ord (rw (← (cmp-eq (e .key) k q)) u)))
-      (λ q. absurd (ord (cmp-trans k (e .key) j (gt-lt (e .key) k q) u))))
+    let u = gt-lt j (e .key) p in
+    arms (λ x. Goes K x l r) (cmp (e .key) k)
+    (λ q. let m = lo-mem j L e R s u a in (tt, (ord, sr, inl m, hi-right k L e R s q b), inr (inr (mem-enters j (Between lo hi) r m))))
+    (λ q. absurd (ord (rw (← (cmp-eq (e .key) k q)) u)))
+    (λ q. absurd (ord (cmp-trans k (e .key) j (gt-lt (e .key) k q) u))))
 goes K w (Lookup i) c e l r (s, h) =
     let k = K i in
     let L = entries l in
@@ -156,6 +153,7 @@ join-other m e u v h =
     alone x y (inl a) = a
     alone x y (inr (inl a)) = absurd (true≢false (sym x ∙ a .empty))
     alone x y (inr (inr a)) = absurd (true≢false (sym y ∙ a .empty))
+
     not-three : isPruned u ≡ true → kindPruned (kindOfWhat m) ≡ true → isPruned v ≡ true → Loud m ⊎ (IsKind Other u ⊎ IsKind Other v) → ⊥
     not-three x y z (inl a) = true≢false (sym y ∙ a)
     not-three x y z (inr (inl a)) = true≢false (sym x ∙ a .pruned)
@@ -177,6 +175,7 @@ part-kind K w (node c e l r) (Walked walk) h =
     entered nil Hidden h k = absurd h
     entered nil (Walked v) h k = absurd h
     entered (node d x a b) (Walked v) h k = k
+
     on : (a : Arm) → Goes K a l r
         → ((p : Part) → ReachedPart K p l → IsKind (kindOfPart (isNil l) p) (partTree K (showing w) l p))
         → ((p : Part) → ReachedPart K p r → IsKind (kindOfPart (isNil r) p) (partTree K (showing w) r p))

@@ -1,26 +1,25 @@
 -- Each walk, arm by arm, is the Rust's: its arms at a node are those of the pure function, on every tree.
 -- Assumes nothing.
-use mathlib.Core.Path.{_≡_, refl, sym, ap, _∙_}
+use mathlib.Core.Path.{_≡_, refl}
 use mathlib.Core.Option.{Option, none, some}
 use Prim.Native.Nat.{ℕ}
 use Rattle.key_order.specs.declared.Ordering.{Ordering}
 use Rattle.key_order.specs.declared.Ordering.the-variants.{Less, Equal, Greater}
 use Rattle.key_order.specs.Order.{Key, cmp, pick}
-use Rattle.hash_tree.specs.HashTree.{HashTree, Empty, Pruned}
-use Rattle.llrb.specs.Tree.{Entry, Tree, nil, node, entries}
+use Rattle.hash_tree.specs.HashTree.{HashTree}
+use Rattle.llrb.specs.Tree.{Tree, nil, node, entries}
 use Rattle.llrb.specs.Sorted.{Sorted, Mem}
 use Rattle.llrb.proofs.Lists.{mem-left, mem-right}
-use Rattle.llrb.specs.Digests.{dataDigest, subtreeDigest}
-use Rattle.witness_trees.specs.Shown.{threeWayFork, item}
+use Rattle.witness_trees.specs.Shown.{threeWayFork}
 use Rattle.witness_trees.specs.Shown as shown
-use Rattle.witness_trees.specs.Witness.{Form, keysOnly, values, seen, KeyBound, Exact, Neighbor, at, prunedTree, ends, both, andThen, lastArm, fullWitnessTree, witnessRangeAbove, witnessRangeBelow, witnessRangeBetween, rangeWitness, lookupAndBuildWitness}
+use Rattle.witness_trees.specs.Witness.{Form, keysOnly, values, seen, KeyBound, Exact, Neighbor, at, prunedTree, ends, both, lastArm, fullWitnessTree, witnessRangeAbove, witnessRangeBelow, witnessRangeBetween, rangeWitness, lookupAndBuildWitness}
 use Rattle.witness_trees.proofs.Lists.{arms, sorted-l, sorted-r}
 use Rattle.witness_walks.specs.declared.What.{What}
 use Rattle.witness_walks.specs.declared.Part.{Part}
 use Rattle.witness_walks.specs.declared.Arm.{Arm}
 use Rattle.witness_walks.specs.declared.Part.the-variants.{Hidden, Walked}
 use Rattle.witness_walks.specs.declared.Walk.the-variants.{Full, Above, Below, Between, Lookup}
-use Rattle.witness_walks.specs.Arms.{slotOf, seenAt, bothSeen, aboveArms, belowArms, betweenArms, lookupArms}
+use Rattle.witness_walks.specs.Arms.{slotOf, seenAt, bothSeen}
 use Rattle.search.specs.Search.{keyBoundSlot}
 use Rattle.witness_walks.specs.Bounds.{rangeWalk}
 use Rattle.witness_walks.specs.Walked.{whatOf, showing, joined, partTree}
@@ -72,9 +71,9 @@ module _ (K : ℕ → Key) (w : Form) where
       let hl = hidden-tree K (showing w) l in
       rw h
       (both-arms (λ a u. joined a (made l) (made r) e (node c e l r) ≡ u) (cmp (e .key) (at lo))
-        (λ q. rw (hl, ir))
-        (λ q. rw (hl, what-ends lo w, walk-full r))
-        (λ q. rw (il, what-seen w, walk-full r)))
+      (λ q. rw (hl, ir))
+      (λ q. rw (hl, what-ends lo w, walk-full r))
+      (λ q. rw (il, what-seen w, walk-full r)))
 
   pub walk-below : (hi : KeyBound) → Placed K hi → (t : Tree) → made t (Walked (Below (keyBoundSlot hi))) ≡ witnessRangeBelow threeWayFork lastArm hi w t
   unfolding partTree witnessRangeBelow
@@ -85,9 +84,9 @@ module _ (K : ℕ → Key) (w : Form) where
       let hr = hidden-tree K (showing w) r in
       rw h
       (both-arms (λ a u. joined a (made l) (made r) e (node c e l r) ≡ u) (cmp (e .key) (at hi))
-        (λ q. rw (walk-full l, what-seen w, ir))
-        (λ q. rw (walk-full l, what-ends hi w, hr))
-        (λ q. rw (il, hr)))
+      (λ q. rw (walk-full l, what-seen w, ir))
+      (λ q. rw (walk-full l, what-ends hi w, hr))
+      (λ q. rw (il, hr)))
 
   pub walk-between : (lo hi : KeyBound) → Placed K lo → Placed K hi → (t : Tree) → made t (Walked (Between (keyBoundSlot lo) (keyBoundSlot hi))) ≡ witnessRangeBetween threeWayFork lastArm lo hi w t
   unfolding partTree witnessRangeBetween
@@ -100,9 +99,9 @@ module _ (K : ℕ → Key) (w : Form) where
       let R : Arm → HashTree → Type 0 = λ a u. joined a (made l) (made r) e (node c e l r) ≡ u in
       rw (h, k)
       (both-arms R (cmp (at lo) (e .key))
-        (λ p. both-arms R (cmp (e .key) (at hi)) (λ q. rw (il, what-seen w, ir)) (λ q. rw (il, what-ends hi w, hr)) (λ q. rw (il, hr)))
-        (λ p. both-arms R (cmp (e .key) (at hi)) (λ q. rw (hl, what-ends lo w, ir)) (λ q. rw (hl, what-both lo hi w, hr)) (λ q. rw (hl, what-ends lo w, ir)))
-        (λ p. both-arms R (cmp (e .key) (at hi)) (λ q. rw (hl, ir)) (λ q. rw (il, what-ends hi w, hr)) (λ q. refl)))
+      (λ p. both-arms R (cmp (e .key) (at hi)) (λ q. rw (il, what-seen w, ir)) (λ q. rw (il, what-ends hi w, hr)) (λ q. rw (il, hr)))
+      (λ p. both-arms R (cmp (e .key) (at hi)) (λ q. rw (hl, what-ends lo w, ir)) (λ q. rw (hl, what-both lo hi w, hr)) (λ q. rw (hl, what-ends lo w, ir)))
+      (λ p. both-arms R (cmp (e .key) (at hi)) (λ q. rw (hl, ir)) (λ q. rw (il, what-ends hi w, hr)) (λ q. refl)))
 
   abbrev pub PlacedEnd : Option KeyBound → Type 0
   PlacedEnd none = Unit {0}

@@ -1,21 +1,18 @@
 -- The bytes of a walk are the written form of the hash tree that it makes.
 -- Assumes nothing.
-use mathlib.Core.Path.{_≡_, refl, sym, ap, _∙_}
-use mathlib.Core.Bool.{Bool, true, false}
-use mathlib.Core.List.{List, [], _∷_, _++_}
+use mathlib.Core.Path.{_≡_, refl, sym}
+use mathlib.Core.List.{[]}
 use Prim.Native.Nat.{ℕ}
 use Rattle.key_order.specs.Order.{Key}
-use Rattle.hash_tree.specs.HashTree.{HashTree, forkHash, digest}
-use Rattle.hash_tree.specs.Written.{piece, write}
-use Rattle.llrb.specs.Tree.{Entry, Tree, nil, node}
-use Rattle.llrb.specs.Digests.{isNil, dataDigest, nodeDigest, subtreeDigest}
-use Rattle.witness_trees.specs.Reading.{isPruned}
+use Rattle.hash_tree.specs.Written.{write}
+use Rattle.llrb.specs.Tree.{Tree, nil, node}
+use Rattle.llrb.specs.Digests.{isNil, subtreeDigest}
 use Rattle.witness_trees.specs.Witness.{Form}
 use Rattle.witness_walks.specs.declared.What.{What}
 use Rattle.witness_walks.specs.declared.Part.{Part}
 use Rattle.witness_walks.specs.declared.Part.the-variants.{Nothing, Hidden, Walked}
 use Rattle.witness_walks.specs.declared.Arm.{Arm}
-use Rattle.witness_walks.specs.declared.Arm.the-variants.{Fork, Pruned}
+use Rattle.witness_walks.specs.declared.Arm.the-variants.{Fork}
 use Rattle.witness_walks.specs.Arms.{armsAt}
 use Rattle.witness_walks.specs.Records.{kindOfPart, recordsAt}
 use Rattle.witness_walks.specs.Walked.{showing, joined, partTree, inOrder, partBytes}
@@ -37,6 +34,7 @@ part-bytes K w (node c e l r) (Walked walk) h =
   where
     f : What
     f = showing w
+
     on : (a : Arm) → Goes K a l r
         → ((p : Part) → ReachedPart K p l → partBytes K f l p ≡ write (partTree K f l p))
         → ((p : Part) → ReachedPart K p r → partBytes K f r p ≡ write (partTree K f r p))
@@ -44,9 +42,9 @@ part-bytes K w (node c e l r) (Walked walk) h =
         ≡ write (joined a (partTree K f l) (partTree K f r) e (node c e l r))
     on (Fork p m q) (a, b, x) il ir =
         sym (join-bytes p q m e (node c e l r) (partTree K f l p) (partTree K f r q) (kindOfPart (isNil l) p) (kindOfPart (isNil r) q) (partBytes K f l) (partBytes K f r)
-          (part-kind K w l p a) (part-kind K w r q b) (nothing-bytes K f l) (nothing-bytes K f r) (il p a) (ir q b)
-          (λ y z.
-            let u = pruned-part K w l p a y in
-            let v = pruned-part K w r q b z in
-            unfold subtreeDigest in rw (u .0, v .0, u .1, v .1))
-          (λ z. rw (pruned-part K w r q b z .1)))
+        (part-kind K w l p a) (part-kind K w r q b) (nothing-bytes K f l) (nothing-bytes K f r) (il p a) (ir q b)
+        (λ y z.
+        let u = pruned-part K w l p a y in
+        let v = pruned-part K w r q b z in
+        unfold subtreeDigest in rw (u .0, v .0, u .1, v .1))
+        (λ z. rw (pruned-part K w r q b z .1)))

@@ -10,7 +10,6 @@ use Rattle.witness_walks.specs.declared.Walk.{Walk}
 use Rattle.witness_walks.specs.declared.Walk.the-variants.{Full, Above, Below, Between, Lookup}
 use Rattle.witness_walks.specs.declared.What.{What}
 use Rattle.witness_walks.specs.declared.What.the-variants.{Hide, Label, Show}
-use Rattle.witness_walks.specs.declared.Part.{Part}
 use Rattle.witness_walks.specs.declared.Part.the-variants.{Hidden, Walked}
 use Rattle.witness_walks.specs.declared.Arm.{Arm}
 use Rattle.witness_walks.specs.declared.Arm.the-variants.{Fork, Pruned}
@@ -54,17 +53,17 @@ abbrev pub betweenArms : KeyBound → KeyBound → What → Ordering → Orderin
 betweenArms lo hi f o p =
     pick o
     (pick p
-      (Fork (Walked (Between lo hi)) f (Walked (Between lo hi)))
-      (Fork (Walked (Between lo hi)) (seenAt hi f) Hidden)
-      (Fork (Walked (Between lo hi)) Hide Hidden))
+    (Fork (Walked (Between lo hi)) f (Walked (Between lo hi)))
+    (Fork (Walked (Between lo hi)) (seenAt hi f) Hidden)
+    (Fork (Walked (Between lo hi)) Hide Hidden))
     (pick p
-      (Fork Hidden (seenAt lo f) (Walked (Between lo hi)))
-      (Fork Hidden (bothSeen lo hi f) Hidden)
-      (Fork Hidden (seenAt lo f) (Walked (Between lo hi))))
+    (Fork Hidden (seenAt lo f) (Walked (Between lo hi)))
+    (Fork Hidden (bothSeen lo hi f) Hidden)
+    (Fork Hidden (seenAt lo f) (Walked (Between lo hi))))
     (pick p
-      (Fork Hidden Hide (Walked (Between lo hi)))
-      (Fork (Walked (Between lo hi)) (seenAt hi f) Hidden)
-      Pruned)
+    (Fork Hidden Hide (Walked (Between lo hi)))
+    (Fork (Walked (Between lo hi)) (seenAt hi f) Hidden)
+    Pruned)
 
 -- by how the key looked up, that of slot i, stands to the key
 abbrev pub lookupArms : ℕ → Ordering → Arm

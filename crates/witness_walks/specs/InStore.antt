@@ -1,20 +1,19 @@
 -- What the writer reads in a store: entries by their slots, and the bytes of what is written of them.
 -- Assumes nothing: these are definitions.
 use mathlib.Core.Path.{_≡_}
-use mathlib.Core.Bool.{Bool, true, false, cond}
+use mathlib.Core.Bool.{cond}
 use mathlib.Core.List.{List, []}
-use Prim.Native.Nat.{ℕ, _≤_}
+use Prim.Native.Nat.{ℕ}
 use lib.Dec.{eqb}
 use lib.ListN.{length}
 use Rattle.key_order.specs.Order.{Key}
-use Rattle.hash_tree.specs.HashTree.{HashTree, forkHash}
+use Rattle.hash_tree.specs.HashTree.{forkHash}
 use Rattle.hash_tree.specs.Written.{piece, write}
 use Rattle.slots.specs.Layout.{HasSlot, slot, digestOf, keyOf, valueOf}
 use Rattle.llrb.specs.Tree.{Entry as TheEntry}
 use Rattle.llrb.specs.Digests.{dataDigest}
 use Rattle.witness_trees.specs.Shown.{item}
 use Rattle.search.specs.Search.{EntryAt}
-use Rattle.search.specs.declared.KeyBound.{KeyBound}
 use Rattle.witness_walks.specs.declared.Walk.{Walk}
 use Rattle.witness_walks.specs.declared.Walk.the-variants.{Full, Above, Below, Between, Lookup}
 use Rattle.witness_walks.specs.declared.What.{What}

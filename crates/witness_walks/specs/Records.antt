@@ -6,13 +6,11 @@ use Rattle.witness_walks.specs.declared.What.the-variants.{Hide, Label, 
 use Rattle.witness_walks.specs.declared.Part.{Part}
 use Rattle.witness_walks.specs.declared.Part.the-variants.{Nothing, Hidden, Walked}
 use Rattle.witness_walks.specs.declared.Arm.{Arm}
-use Rattle.witness_walks.specs.declared.Arm.the-variants.{Fork} 
-use Rattle.witness_walks.specs.declared.Arm.the-variants.{Pruned as PrunedArm}
+use Rattle.witness_walks.specs.declared.Arm.the-variants.{Fork, Pruned as PrunedArm}
 use Rattle.witness_walks.specs.declared.Kind.{Kind}
 use Rattle.witness_walks.specs.declared.Kind.the-variants.{Empty, Pruned, Other}
 use Rattle.witness_walks.specs.declared.Shape.{Shape}
 use Rattle.witness_walks.specs.declared.Shape.the-variants.{M, ForkLM, ForkMR, PrunedLMR, ForkLPrunedMR, ForkLForkMR}
-use Rattle.witness_walks.specs.declared.Middle.{Middle}
 use Rattle.witness_walks.specs.declared.Middle.the-variants.{Entry, Both, Whole}
 use Rattle.witness_walks.specs.declared.Records.{Records}
 

@@ -5,7 +5,7 @@ use mathlib.Core.Bool.{Bool, true, false}
 use mathlib.Core.List.{List, [], _++_}
 use Prim.Native.Nat.{ℕ}
 use Rattle.key_order.specs.Order.{Key}
-use Rattle.hash_tree.specs.HashTree.{HashTree, Empty, Pruned, forkHash}
+use Rattle.hash_tree.specs.HashTree.{HashTree, Empty, forkHash}
 use Rattle.hash_tree.specs.Written.{piece, write}
 use Rattle.llrb.specs.Tree.{Entry as TheEntry, Tree, nil, node}
 use Rattle.llrb.specs.Digests.{isNil, dataDigest, subtreeDigest}
@@ -18,8 +18,7 @@ use Rattle.witness_walks.specs.declared.What.the-variants.{Hide, Label, 
 use Rattle.witness_walks.specs.declared.Part.{Part}
 use Rattle.witness_walks.specs.declared.Part.the-variants.{Nothing, Hidden, Walked}
 use Rattle.witness_walks.specs.declared.Arm.{Arm}
-use Rattle.witness_walks.specs.declared.Arm.the-variants.{Fork} 
-use Rattle.witness_walks.specs.declared.Arm.the-variants.{Pruned as PrunedArm}
+use Rattle.witness_walks.specs.declared.Arm.the-variants.{Fork, Pruned as PrunedArm}
 use Rattle.witness_walks.specs.declared.Middle.{Middle}
 use Rattle.witness_walks.specs.declared.Middle.the-variants.{Entry, Both, Whole}
 use Rattle.witness_walks.specs.declared.Records.{Records}

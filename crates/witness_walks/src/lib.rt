@@ -1,6 +1,7 @@
 // The walks of the Rust over the slots of a store. The `HashTree` on the heap becomes the written form, parent first: so a walk says
 // what becomes of a node's three parts before any of them is made, and three_way_fork joins them by their kinds alone.
-use key_order::{compare, Ordering};
+use key_order::Ordering;
+use key_order::compare;
 use search::KeyBound;
 use slots::key;
 ghost use mathlib.Core.Path.{_≡_};
@@ -449,7 +450,8 @@ pub fn records_at(s: &[u8], n: usize, walk: Walk, f: What) -> Records
         left,
         middle,
         right,
-    } = arm_at(s, n, walk, f) else {
+    } = arm_at(s, n, walk, f)
+    else {
         return whole();
     };
     let l = kind_of_part(left, slots::left(s, n));

@@ -1,4 +1,3 @@
-use mathlib.Core.Path.{_≡_, refl, sym, ap, _∙_}
 use mathlib.Core.List.{[]}
 use native.Mathlib.Omega.{arith}
 use borrow.Author.Needs.{needs}
@@ -98,10 +97,15 @@ write-tree-write-tree-requires t c κs =
     let ne = c .before .before .before .before .before .before .before .if1 .left in
     let h = rw (c .before .before .before .before .before .before .before .before .before .part .given .1) at (p .3) in
     let b = rw (c .before .before .before .before .before .before .before .before .before .part .given .1) at (p .2) in
-    let e = c .before .left .ensures in
-    (falls-to (less-left ne (p .0) (p .1) e) (c .before .before .before .before .before .before .before .before .before .before .before .before .before .pre .0),
-    (left (p .0), left-lies ne (p .0) (p .1) e, rw (c .before .before .before .before .before .before .records-at .ensures) (parts-in (c .before .before .before .before .before .before .before .before .before .before .before .before .before .args .s .now) (c .before .before .before .before .before .before .before .before .before .before .before .before .before .args .n) (c .before .before .before .before .before .before .before .before .before .part .given .0 .0) (c .before .before .before .before .before .before .before .before .before .before .before .before .before .args .f) b .0),
-    room₂ ne (c .before .before .before .before .before .before .before .before .before .part .given .0 .0) (c .before .before .before .before .before .before .before .before .before .before .before .before .before .args .f) (c .before .before .before .before .before .before .records-at .result) (c .before .before .before .before .before .before .records-at .ensures) (p .0) (p .1) (c .before .before .before .before .before .before .before .before .before .before .before .before .before .args .out .now) (c .before .before .before .before .before .before .before .before .before .before .before .before .before .args .at) h (c .before .before .before .before .put-fork .ensures)))
+    let e = c .before .left .ensures in (
+      falls-to (less-left ne (p .0) (p .1) e) (c .before .before .before .before .before .before .before .before .before .before .before .before .before .pre .0),
+      (
+        left (p .0),
+        left-lies ne (p .0) (p .1) e,
+        rw (c .before .before .before .before .before .before .records-at .ensures) (parts-in (c .before .before .before .before .before .before .before .before .before .before .before .before .before .args .s .now) (c .before .before .before .before .before .before .before .before .before .before .before .before .before .args .n) (c .before .before .before .before .before .before .before .before .before .part .given .0 .0) (c .before .before .before .before .before .before .before .before .before .before .before .before .before .args .f) b .0),
+        room₂ ne (c .before .before .before .before .before .before .before .before .before .part .given .0 .0) (c .before .before .before .before .before .before .before .before .before .before .before .before .before .args .f) (c .before .before .before .before .before .before .records-at .result) (c .before .before .before .before .before .before .records-at .ensures) (p .0) (p .1) (c .before .before .before .before .before .before .before .before .before .before .before .before .before .args .out .now) (c .before .before .before .before .before .before .before .before .before .before .before .before .before .args .at) h (c .before .before .before .before .put-fork .ensures),
+      ),
+    )
 
 -- src/lib.rt:222:17
 write-tree-put-fork-requires-2 : (t : ℕ) → write-tree-lts.Need-put-fork-requires-2 (claims-write-tree t) (write-tree-at t) write-tree.Post
@@ -116,9 +120,13 @@ write-tree-put-middle-requires : (t : ℕ) → write-tree-lts.Need-put-middle-re
 write-tree-put-middle-requires t c κs =
     let p = c .before .before .before .before .before .before .before .before .before .before .before .before .before .before .before .before .before .before .before .before .before .pre .1 in
     let ne = c .before .before .before .before .before .before .before .before .before .before .before .before .before .before .before .if1 .left in
-    let h = rw (c .before .before .before .before .before .before .before .before .before .before .before .before .before .before .before .before .before .part .given .1) at (p .3) in
-    (node-entry ne (p .0) (p .1), (rw (c .before .before .before .before .before .before .before .before .before .before .before .before .before .before .records-at .ensures) (node-middle ne (p .0) (p .1) (c .before .before .before .before .before .before .before .before .before .before .before .before .before .before .before .before .before .part .given .0 .0) (c .before .before .before .before .before .before .before .before .before .before .before .before .before .before .before .before .before .before .before .before .before .args .f)),
-    room₄ ne (c .before .before .before .before .before .before .before .before .before .before .before .before .before .before .before .before .before .part .given .0 .0) (c .before .before .before .before .before .before .before .before .before .before .before .before .before .before .before .before .before .before .before .before .before .args .f) (c .before .before .before .before .before .before .before .before .before .before .before .before .before .before .records-at .result) (c .before .before .before .before .before .before .before .before .before .before .before .before .before .before .records-at .ensures) (p .0) (p .1) (c .before .before .before .before .before .before .before .before .before .before .before .before .before .before .before .before .before .before .before .before .before .args .out .now) (c .before .before .before .before .before .before .before .before .before .before .before .before .before .before .before .before .before .before .before .before .before .args .at) h (c .before .before .before .before .before .before .before .before .before .before .before .before .put-fork .ensures) (c .before .before .before .before .before .before .before .write-tree .ensures (left (p .0)) (left-lies ne (p .0) (p .1) (c .before .before .before .before .before .before .before .before .before .left .ensures))) (c .before .before .before .put-fork2 .ensures)))
+    let h = rw (c .before .before .before .before .before .before .before .before .before .before .before .before .before .before .before .before .before .part .given .1) at (p .3) in (
+      node-entry ne (p .0) (p .1),
+      (
+        rw (c .before .before .before .before .before .before .before .before .before .before .before .before .before .before .records-at .ensures) (node-middle ne (p .0) (p .1) (c .before .before .before .before .before .before .before .before .before .before .before .before .before .before .before .before .before .part .given .0 .0) (c .before .before .before .before .before .before .before .before .before .before .before .before .before .before .before .before .before .before .before .before .before .args .f)),
+        room₄ ne (c .before .before .before .before .before .before .before .before .before .before .before .before .before .before .before .before .before .part .given .0 .0) (c .before .before .before .before .before .before .before .before .before .before .before .before .before .before .before .before .before .before .before .before .before .args .f) (c .before .before .before .before .before .before .before .before .before .before .before .before .before .before .records-at .result) (c .before .before .before .before .before .before .before .before .before .before .before .before .before .before .records-at .ensures) (p .0) (p .1) (c .before .before .before .before .before .before .before .before .before .before .before .before .before .before .before .before .before .before .before .before .before .args .out .now) (c .before .before .before .before .before .before .before .before .before .before .before .before .before .before .before .before .before .before .before .before .before .args .at) h (c .before .before .before .before .before .before .before .before .before .before .before .before .put-fork .ensures) (c .before .before .before .before .before .before .before .write-tree .ensures (left (p .0)) (left-lies ne (p .0) (p .1) (c .before .before .before .before .before .before .before .before .before .left .ensures))) (c .before .before .before .put-fork2 .ensures),
+      ),
+    )
 
 -- src/lib.rt:224:27
 write-tree-right-requires : (t : ℕ) → write-tree-lts.Need-right-requires (claims-write-tree t) (write-tree-at t) write-tree.Post
@@ -132,10 +140,15 @@ write-tree-write-tree-requires-2 t c κs =
     let ne = c .before .before .before .before .before .before .before .before .before .before .before .before .before .before .before .before .before .before .before .before .if1 .left in
     let h = rw (c .before .before .before .before .before .before .before .before .before .before .before .before .before .before .before .before .before .before .before .before .before .before .part .given .1) at (p .3) in
     let b = rw (c .before .before .before .before .before .before .before .before .before .before .before .before .before .before .before .before .before .before .before .before .before .before .part .given .1) at (p .2) in
-    let e = c .before .right .ensures in
-    (falls-to (less-right ne (p .0) (p .1) e) (c .before .before .before .before .before .before .before .before .before .before .before .before .before .before .before .before .before .before .before .before .before .before .before .before .before .before .pre .0),
-    (right (p .0), right-lies ne (p .0) (p .1) e, rw (c .before .before .before .before .before .before .before .before .before .before .before .before .before .before .before .before .before .before .before .records-at .ensures) (parts-in (c .before .before .before .before .before .before .before .before .before .before .before .before .before .before .before .before .before .before .before .before .before .before .before .before .before .before .args .s .now) (c .before .before .before .before .before .before .before .before .before .before .before .before .before .before .before .before .before .before .before .before .before .before .before .before .before .before .args .n) (c .before .before .before .before .before .before .before .before .before .before .before .before .before .before .before .before .before .before .before .before .before .before .part .given .0 .0) (c .before .before .before .before .before .before .before .before .before .before .before .before .before .before .before .before .before .before .before .before .before .before .before .before .before .before .args .f) b .1),
-    room₅ ne (c .before .before .before .before .before .before .before .before .before .before .before .before .before .before .before .before .before .before .before .before .before .before .part .given .0 .0) (c .before .before .before .before .before .before .before .before .before .before .before .before .before .before .before .before .before .before .before .before .before .before .before .before .before .before .args .f) (c .before .before .before .before .before .before .before .before .before .before .before .before .before .before .before .before .before .before .before .records-at .result) (c .before .before .before .before .before .before .before .before .before .before .before .before .before .before .before .before .before .before .before .records-at .ensures) (p .0) (p .1) (c .before .before .before .before .before .before .before .before .before .before .before .before .before .before .before .before .before .before .before .before .before .before .before .before .before .before .args .out .now) (c .before .before .before .before .before .before .before .before .before .before .before .before .before .before .before .before .before .before .before .before .before .before .before .before .before .before .args .at) h (c .before .before .before .before .before .before .before .before .before .before .before .before .before .before .before .before .before .put-fork .ensures) (c .before .before .before .before .before .before .before .before .before .before .before .before .write-tree .ensures (left (p .0)) (left-lies ne (p .0) (p .1) (c .before .before .before .before .before .before .before .before .before .before .before .before .before .before .left .ensures))) (c .before .before .before .before .before .before .before .before .put-fork2 .ensures) (c .before .before .before .before .put-middle .ensures)))
+    let e = c .before .right .ensures in (
+      falls-to (less-right ne (p .0) (p .1) e) (c .before .before .before .before .before .before .before .before .before .before .before .before .before .before .before .before .before .before .before .before .before .before .before .before .before .before .pre .0),
+      (
+        right (p .0),
+        right-lies ne (p .0) (p .1) e,
+        rw (c .before .before .before .before .before .before .before .before .before .before .before .before .before .before .before .before .before .before .before .records-at .ensures) (parts-in (c .before .before .before .before .before .before .before .before .before .before .before .before .before .before .before .before .before .before .before .before .before .before .before .before .before .before .args .s .now) (c .before .before .before .before .before .before .before .before .before .before .before .before .before .before .before .before .before .before .before .before .before .before .before .before .before .before .args .n) (c .before .before .before .before .before .before .before .before .before .before .before .before .before .before .before .before .before .before .before .before .before .before .part .given .0 .0) (c .before .before .before .before .before .before .before .before .before .before .before .before .before .before .before .before .before .before .before .before .before .before .before .before .before .before .args .f) b .1),
+        room₅ ne (c .before .before .before .before .before .before .before .before .before .before .before .before .before .before .before .before .before .before .before .before .before .before .part .given .0 .0) (c .before .before .before .before .before .before .before .before .before .before .before .before .before .before .before .before .before .before .before .before .before .before .before .before .before .before .args .f) (c .before .before .before .before .before .before .before .before .before .before .before .before .before .before .before .before .before .before .before .records-at .result) (c .before .before .before .before .before .before .before .before .before .before .before .before .before .before .before .before .before .before .before .records-at .ensures) (p .0) (p .1) (c .before .before .before .before .before .before .before .before .before .before .before .before .before .before .before .before .before .before .before .before .before .before .before .before .before .before .args .out .now) (c .before .before .before .before .before .before .before .before .before .before .before .before .before .before .before .before .before .before .before .before .before .before .before .before .before .before .args .at) h (c .before .before .before .before .before .before .before .before .before .before .before .before .before .before .before .before .before .put-fork .ensures) (c .before .before .before .before .before .before .before .before .before .before .before .before .write-tree .ensures (left (p .0)) (left-lies ne (p .0) (p .1) (c .before .before .before .before .before .before .before .before .before .before .before .before .before .before .left .ensures))) (c .before .before .before .before .before .before .before .before .put-fork2 .ensures) (c .before .before .before .before .put-middle .ensures),
+      ),
+    )
 
 -- src/lib.rt:205:1
 write-tree-returns-2 : (t : ℕ) → write-tree-lts.Need-returns-2 (claims-write-tree t) (write-tree-at t) write-tree.Post

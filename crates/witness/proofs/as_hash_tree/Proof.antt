@@ -1,4 +1,4 @@
-use mathlib.Core.Path.{_≡_, refl, sym, ap, _∙_}
+use mathlib.Core.Path.{ap}
 use Rattle.slots.specs.declared.Header.{Header}
 use Rattle.witness.proofs.Saving.{can-full, as-hash-tree-answer}
 use borrow.Author.Needs.{needs}

@@ -1,4 +1,4 @@
-use mathlib.Core.Path.{_≡_, refl, sym, ap, _∙_}
+use mathlib.Core.Path.{_∙_}
 use borrow.Author.Needs.{needs}
 use Rattle.witness.proofs.data_hash.Statement.{statement}
 use Rattle.witness.proofs.data_hash.Tie as tie

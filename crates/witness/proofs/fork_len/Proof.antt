@@ -1,4 +1,3 @@
-use mathlib.Core.Path.{_≡_, refl, sym, ap, _∙_}
 use Rattle.hash_tree.specs.Written.{piece}
 use borrow.Author.Needs.{needs}
 use Rattle.witness.proofs.fork_len.Statement.{statement}

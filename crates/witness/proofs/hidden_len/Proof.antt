@@ -1,4 +1,3 @@
-use mathlib.Core.Path.{_≡_, refl, sym, ap, _∙_}
 use borrow.Author.Tests.{ne-eqb}
 use Rattle.witness.proofs.hidden_len.Statement.{statement}
 use Rattle.witness.proofs.hidden_len.Tie as tie

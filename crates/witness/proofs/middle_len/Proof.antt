@@ -1,4 +1,3 @@
-use mathlib.Core.Path.{_≡_, refl, sym, ap, _∙_}
 use native.Mathlib.Omega.{arith}
 use Rattle.witness.proofs.Lengths.{both-length, whole-length}
 use borrow.Author.Needs.{needs}

@@ -1,4 +1,4 @@
-use mathlib.Core.Path.{_≡_, refl, sym, ap, _∙_}
+use mathlib.Core.Path.{_≡_, _∙_}
 use native.Mathlib.Omega.{arith}
 use Rattle.slots.specs.Layout.{slot, digestOf}
 use Rattle.slots.proofs.Lenses.{digest-length}

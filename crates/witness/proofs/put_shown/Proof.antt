@@ -1,4 +1,3 @@
-use mathlib.Core.Path.{_≡_, refl, sym, ap, _∙_}
 use native.Mathlib.Omega.{arith}
 use Rattle.slots.specs.Layout.{slot, keyOf, valueOf}
 use Rattle.hash_tree.specs.HashTree.{leafHash}

@@ -1,4 +1,3 @@
-use mathlib.Core.Path.{_≡_, refl, sym, ap, _∙_}
 use borrow.Author.Needs.{needs}
 use Rattle.witness.proofs.range_walk.Statement.{statement}
 use Rattle.witness.proofs.range_walk.Tie as tie

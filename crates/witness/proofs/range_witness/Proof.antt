@@ -1,4 +1,3 @@
-use mathlib.Core.Path.{_≡_, refl, sym, ap, _∙_}
 use Rattle.witness.proofs.Saving.{bounds-in}
 use borrow.Author.Needs.{needs}
 use Rattle.witness.proofs.range_witness.Statement.{statement}

@@ -1,4 +1,4 @@
-use mathlib.Core.Path.{_≡_, refl, sym, ap, _∙_}
+use mathlib.Core.Path.{ap}
 use Rattle.slots.specs.declared.Header.{Header}
 use Rattle.search.proofs.Finding.{root-in}
 use Rattle.witness.proofs.Saving.{low-in, high-in, can-range, value-range-answer}

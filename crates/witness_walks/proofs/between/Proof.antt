@@ -1,5 +1,4 @@
 use borrow.Author.Needs.{needs}
-use mathlib.Core.Path.{_≡_, refl, sym, ap, _∙_}
 use Rattle.witness_walks.proofs.between.Statement.{statement}
 use Rattle.witness_walks.proofs.between.Tie as tie
 use Rattle.witness_walks.proofs.between.Reads as reads

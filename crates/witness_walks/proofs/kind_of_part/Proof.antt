@@ -1,5 +1,4 @@
-use mathlib.Core.Path.{_≡_, refl, sym, ap, _∙_}
-use borrow.Author.Tests.{eq-eqb, ne-eqb}
+use borrow.Author.Tests.{ne-eqb}
 use borrow.Author.Needs.{needs}
 use Rattle.witness_walks.proofs.kind_of_part.Statement.{statement}
 use Rattle.witness_walks.proofs.kind_of_part.Tie as tie

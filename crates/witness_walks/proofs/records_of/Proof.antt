@@ -1,4 +1,3 @@
-use mathlib.Core.Path.{_≡_, refl, sym, ap, _∙_}
 use borrow.Author.Needs.{needs}
 use Rattle.witness_walks.proofs.records_of.Statement.{statement}
 use Rattle.witness_walks.proofs.records_of.Tie as tie

@@ -1,4 +1,4 @@
-use mathlib.Core.Path.{_≡_, refl, sym, ap, _∙_}
+use mathlib.Core.Path.{sym, _∙_}
 use borrow.Author.Needs.{needs}
 use Rattle.witness_walks.proofs.witness_range_below.Statement.{statement}
 use Rattle.witness_walks.proofs.witness_range_below.Tie as tie

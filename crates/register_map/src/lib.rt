@@ -1,0 +1,324 @@
+// The register map store: every public call of document 01. Any bytes may arrive as store, key, value, output, witness or message.
+// Each call answers a number of document 01, 0 if it is done, and is one function of what it is lent (crate store, specs/Calls).
+use hash_tree::Rebuilt;
+use judge::judge;
+use key_order::Ordering;
+use key_order::compare;
+use rb_tree::Changed;
+use rb_tree::Inserted;
+use search::Place;
+use sha256::Hashed;
+use whole_store::Counted;
+use whole_store::Digested;
+use whole_store::Told;
+use witness::Saved;
+ghost use mathlib.Core.Path.{_≡_};
+ghost use Rattle.sha256.specs.Hashed.{hashed};
+ghost use Rattle.hash_tree.specs.Whole.{rebuilt};
+ghost use Rattle.store.specs.Calls.{createAnswer, isEmptyAnswer, countAnswer, rootHashAnswer, getAnswer, firstEntryAnswer, nextEntryAnswer, insertAnswer, modifyAnswer, deleteAnswer, reversed, asHashTreeAnswer, keysAnswer, witnessAnswer, keyRangeAnswer, valueRangeAnswer, keysWithPrefixAnswer};
+ghost use Rattle.whole_store.specs.Answers.{toldOf, countedOf, digestedOf, changedOf};
+ghost use Rattle.search.specs.Search.{answerOf};
+ghost use Rattle.witness.specs.Saving.{answered};
+ghost use Rattle.register_map.specs.Answers.{foundOf, noEntry, insertedNumber, changedNumber, unwritten};
+
+const NOT_SOUND: usize = 1;
+
+const LONG_KEY: usize = 2;
+
+const LONG_VALUE: usize = 3;
+
+const REVERSED: usize = 4;
+
+const FULL: usize = 5;
+
+const ABSENT: usize = 7;
+
+const MAX_KEY: usize = 48;
+
+const MAX_VALUE: usize = 64;
+
+// The number of document 01, and where in the store the key and the value of an entry lie.
+pub struct Found {
+    pub number: usize,
+    pub key_at: usize,
+    pub key_length: usize,
+    pub value_at: usize,
+    pub value_length: usize,
+}
+
+// ---- a store as a whole
+
+// Makes the buffer a fresh store, whatever its bytes were.
+pub fn create(store: &mut [u8], capacity: u64) -> usize
+    ensures { λ r. ⌜ changedOf r (now (store .exit)) ≡ createAnswer capacity (now (store .entry)) ⌝ }
+{
+    whole_store::create(store, capacity)
+}
+
+pub fn is_empty(store: &[u8]) -> Told
+    ensures { λ r. ⌜ toldOf r ≡ isEmptyAnswer (now (store .entry)) ⌝ }
+{
+    whole_store::is_empty(store)
+}
+
+// How many entries there are.
+pub fn count(store: &[u8]) -> Counted
+    ensures { λ r. ⌜ countedOf r ≡ countAnswer (now (store .entry)) ⌝ }
+{
+    whole_store::count(store)
+}
+
+pub fn root_hash(store: &[u8]) -> Digested
+    ensures { λ r. ⌜ digestedOf r ≡ rootHashAnswer (now (store .entry)) ⌝ }
+{
+    whole_store::root_hash(store)
+}
+
+// ---- entries
+
+fn no_entry(number: usize) -> Found
+    ensures { λ r. ⌜ foundOf r ≡ noEntry number ⌝ }
+{
+    Found {
+        number,
+        key_at: 0,
+        key_length: 0,
+        value_at: 0,
+        value_length: 0,
+    }
+}
+
+fn entry_at(place: Place) -> Found
+    ensures { λ r. ⌜ foundOf r ≡ answerOf place ⌝ }
+{
+    let Place::At {
+        key_at,
+        key_length,
+        value_at,
+        value_length,
+    } = place
+    else {
+        return no_entry(ABSENT);
+    };
+    Found {
+        number: 0,
+        key_at,
+        key_length,
+        value_at,
+        value_length,
+    }
+}
+
+pub fn get(store: &[u8], key: &[u8]) -> Found
+    ensures { λ r. ⌜ foundOf r ≡ getAnswer (now (key .entry)) (now (store .entry)) ⌝ }
+{
+    if !judge(store) {
+        return no_entry(NOT_SOUND);
+    }
+    if MAX_KEY < key.len() {
+        return no_entry(LONG_KEY);
+    }
+    entry_at(search::get_place(store, key))
+}
+
+// The first entry in order.
+pub fn first_entry(store: &[u8]) -> Found
+    ensures { λ r. ⌜ foundOf r ≡ firstEntryAnswer (now (store .entry)) ⌝ }
+{
+    if !judge(store) {
+        return no_entry(NOT_SOUND);
+    }
+    entry_at(search::first_place(store))
+}
+
+// The entry of the least key above this one, whether or not this one is present.
+pub fn next_entry(store: &[u8], key: &[u8]) -> Found
+    ensures { λ r. ⌜ foundOf r ≡ nextEntryAnswer (now (key .entry)) (now (store .entry)) ⌝ }
+{
+    if !judge(store) {
+        return no_entry(NOT_SOUND);
+    }
+    if MAX_KEY < key.len() {
+        return no_entry(LONG_KEY);
+    }
+    entry_at(search::next_place(store, key))
+}
+
+// ---- changes
+
+fn inserted_number(answer: Inserted) -> usize
+    ensures { λ r. ⌜ r ≡ insertedNumber answer ⌝ }
+{
+    let Inserted::Done = answer else {
+        return FULL;
+    };
+    0
+}
+
+fn changed_number(answer: Changed) -> usize
+    ensures { λ r. ⌜ r ≡ changedNumber answer ⌝ }
+{
+    let Changed::Done = answer else {
+        return ABSENT;
+    };
+    0
+}
+
+// A new key, or a new value for a key that is present.
+pub fn insert(store: &mut [u8], key: &[u8], value: &[u8]) -> usize
+    ensures { λ r. ⌜ changedOf r (now (store .exit)) ≡ insertAnswer (now (key .entry)) (now (value .entry)) (now (store .entry)) ⌝ }
+{
+    if !judge(store) {
+        return NOT_SOUND;
+    }
+    if MAX_KEY < key.len() {
+        return LONG_KEY;
+    }
+    if MAX_VALUE < value.len() {
+        return LONG_VALUE;
+    }
+    inserted_number(rb_tree::insert(store, key, value))
+}
+
+// A new value for a key that is present.
+pub fn modify(store: &mut [u8], key: &[u8], value: &[u8]) -> usize
+    ensures { λ r. ⌜ changedOf r (now (store .exit)) ≡ modifyAnswer (now (key .entry)) (now (value .entry)) (now (store .entry)) ⌝ }
+{
+    if !judge(store) {
+        return NOT_SOUND;
+    }
+    if MAX_KEY < key.len() {
+        return LONG_KEY;
+    }
+    if MAX_VALUE < value.len() {
+        return LONG_VALUE;
+    }
+    changed_number(rb_tree::modify(store, key, value))
+}
+
+pub fn delete(store: &mut [u8], key: &[u8]) -> usize
+    ensures { λ r. ⌜ changedOf r (now (store .exit)) ≡ deleteAnswer (now (key .entry)) (now (store .entry)) ⌝ }
+{
+    if !judge(store) {
+        return NOT_SOUND;
+    }
+    if MAX_KEY < key.len() {
+        return LONG_KEY;
+    }
+    changed_number(rb_tree::delete(store, key))
+}
+
+// ---- witnesses: each fills the front of the output
+
+fn refuse(number: usize) -> Saved
+    ensures { λ r. ⌜ r ≡ unwritten number ⌝ }
+{
+    Saved { number, size: 0 }
+}
+
+fn above(first: &[u8], last: &[u8]) -> bool
+    ensures { λ r. ⌜ r ≡ reversed (now (first .entry)) (now (last .entry)) ⌝ }
+{
+    match compare(first, last) {
+        Ordering::Less => false,
+        Ordering::Equal => false,
+        Ordering::Greater => true,
+    }
+}
+
+// Every key with its value.
+pub fn as_hash_tree(store: &[u8], out: &mut [u8]) -> Saved
+    ensures { λ r. ⌜ answered r (now (out .exit)) ≡ asHashTreeAnswer (now (store .entry)) (now (out .entry)) ⌝ }
+{
+    if !judge(store) {
+        return refuse(NOT_SOUND);
+    }
+    witness::as_hash_tree(store, out)
+}
+
+// Every key, the values cut to their digests.
+pub fn keys(store: &[u8], out: &mut [u8]) -> Saved
+    ensures { λ r. ⌜ answered r (now (out .exit)) ≡ keysAnswer (now (store .entry)) (now (out .entry)) ⌝ }
+{
+    if !judge(store) {
+        return refuse(NOT_SOUND);
+    }
+    witness::keys(store, out)
+}
+
+// A present key with its value; of an absent one its neighbours.
+pub fn witness(store: &[u8], key: &[u8], out: &mut [u8]) -> Saved
+    ensures { λ r. ⌜ answered r (now (out .exit)) ≡ witnessAnswer (now (key .entry)) (now (store .entry)) (now (out .entry)) ⌝ }
+{
+    if !judge(store) {
+        return refuse(NOT_SOUND);
+    }
+    if MAX_KEY < key.len() {
+        return refuse(LONG_KEY);
+    }
+    witness::witness(store, key, out)
+}
+
+pub fn key_range(store: &[u8], first: &[u8], last: &[u8], out: &mut [u8]) -> Saved
+    ensures { λ r. ⌜ answered r (now (out .exit)) ≡ keyRangeAnswer (now (first .entry)) (now (last .entry)) (now (store .entry)) (now (out .entry)) ⌝ }
+{
+    if !judge(store) {
+        return refuse(NOT_SOUND);
+    }
+    if MAX_KEY < first.len() {
+        return refuse(LONG_KEY);
+    }
+    if MAX_KEY < last.len() {
+        return refuse(LONG_KEY);
+    }
+    if above(first, last) {
+        return refuse(REVERSED);
+    }
+    witness::key_range(store, first, last, out)
+}
+
+pub fn value_range(store: &[u8], first: &[u8], last: &[u8], out: &mut [u8]) -> Saved
+    ensures { λ r. ⌜ answered r (now (out .exit)) ≡ valueRangeAnswer (now (first .entry)) (now (last .entry)) (now (store .entry)) (now (out .entry)) ⌝ }
+{
+    if !judge(store) {
+        return refuse(NOT_SOUND);
+    }
+    if MAX_KEY < first.len() {
+        return refuse(LONG_KEY);
+    }
+    if MAX_KEY < last.len() {
+        return refuse(LONG_KEY);
+    }
+    if above(first, last) {
+        return refuse(REVERSED);
+    }
+    witness::value_range(store, first, last, out)
+}
+
+pub fn keys_with_prefix(store: &[u8], prefix: &[u8], out: &mut [u8]) -> Saved
+    ensures { λ r. ⌜ answered r (now (out .exit)) ≡ keysWithPrefixAnswer (now (prefix .entry)) (now (store .entry)) (now (out .entry)) ⌝ }
+{
+    if !judge(store) {
+        return refuse(NOT_SOUND);
+    }
+    if MAX_KEY < prefix.len() {
+        return refuse(LONG_KEY);
+    }
+    witness::keys_with_prefix(store, prefix, out)
+}
+
+// ---- without a store
+
+// The digest of the tree that a witness holds.
+pub fn rebuild(witness: &[u8]) -> Rebuilt
+    ensures { λ r. ⌜ r ≡ rebuilt (now (witness .entry)) ⌝ }
+{
+    hash_tree::rebuild(witness)
+}
+
+// The SHA-256 of a message.
+pub fn hash(message: &[u8]) -> Hashed
+    ensures { λ r. ⌜ r ≡ hashed (now (message .entry)) ⌝ }
+{
+    sha256::hash(message)
+}
