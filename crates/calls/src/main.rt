@@ -1,0 +1,18 @@
+// Public calls of the library, a line at a time: a test driver that holds one store and one output (docs, "Program calls").
+//
+// Landed: every line of the base: buffer, load, poke, room, create, insert, modify, delete, get, first, next, count, empty, root,
+// full, keys, witness, krange, vrange, prefix, rebuild, hash, store, sum. None of the later requests.
+mod answers;
+mod input;
+mod kinds;
+mod reply;
+mod words;
+
+fn main() {
+    let mut chunk = [0u8; 65_536];
+    let mut line = [0u8; 320_000];
+    let mut store = [0u8; 153_608];
+    let mut output = [0u8; 131_072];
+    let mut text = [0u8; 307_300];
+    answers::run(&mut chunk, &mut line, &mut store, &mut output, &mut text);
+}

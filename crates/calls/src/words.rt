@@ -1,0 +1,145 @@
+// The words of a line: parted by single spaces; bytes in lowercase hex, numbers in decimal.
+use key_order::Ordering;
+use key_order::compare;
+ghost use Prim.Native.Nat.{_≤_};
+ghost use lib.ListN.{length};
+
+// Where the word that starts at `from` ends: at the next space, or with the line.
+pub fn word_end(line: &[u8], from: usize) -> usize
+    requires { ⌜ from ≤ length (now line) ⌝ }
+    ensures { λ r. ⌜ (from ≤ r) × (r ≤ length (now (line .entry))) ⌝ }
+{
+    let mut i = from;
+    while i < line.len() {
+        if line[i] == b' ' {
+            return i;
+        }
+        i += 1;
+    }
+    i
+}
+
+pub fn is(word: &[u8], name: &[u8]) -> bool {
+    match compare(word, name) {
+        Ordering::Less => false,
+        Ordering::Equal => true,
+        Ordering::Greater => false,
+    }
+}
+
+// ---- hex
+
+// What a digit stands for, or 16.
+fn digit(b: u8) -> u8
+    ensures { λ r. ⌜ r ≤ 16 ⌝ }
+{
+    if b < b'0' {
+        return 16;
+    }
+    if b <= b'9' {
+        return b - b'0';
+    }
+    if b < b'a' {
+        return 16;
+    }
+    if b <= b'f' {
+        return b - b'a' + 10;
+    }
+    16
+}
+
+fn all_digits(word: &[u8]) -> bool {
+    let mut i = 0;
+    while i < word.len() {
+        if digit(word[i]) == 16 {
+            return false;
+        }
+        i += 1;
+    }
+    true
+}
+
+pub fn is_hex(word: &[u8]) -> bool {
+    if is(word, b"-") {
+        return true;
+    }
+    if word.len() == 0 {
+        return false;
+    }
+    if word.len() % 2 != 0 {
+        return false;
+    }
+    all_digits(word)
+}
+
+fn byte(high: u8, low: u8) -> u8 {
+    digit(high) % 16 * 16 + digit(low) % 16
+}
+
+// Puts the bytes that a word stands for in its own front, and answers how many they are.
+pub fn unhex(word: &mut [u8]) -> usize
+    ensures { λ r. ⌜ r ≤ length (now (word .entry)) ⌝ }
+{
+    let n = word.len() / 2;
+    let mut i = 0;
+    while i < n {
+        let b = byte(word[2 * i], word[2 * i + 1]);
+        word[i] = b;
+        i += 1;
+    }
+    n
+}
+
+// ---- numbers
+
+pub enum Number {
+    Is(u64),
+    Bad,
+}
+
+// The number with one digit more.
+fn appended(n: u64, b: u8) -> Number {
+    if b < b'0' {
+        return Number::Bad;
+    }
+    if b'9' < b {
+        return Number::Bad;
+    }
+    let d = (b - b'0') as u64;
+    if n <= (u64::MAX - d) / 10 {
+        return Number::Is(n * 10 + d);
+    }
+    Number::Bad
+}
+
+pub fn decimal(word: &[u8]) -> Number {
+    if word.len() == 0 {
+        return Number::Bad;
+    }
+    let mut n: u64 = 0;
+    let mut i = 0;
+    while i < word.len() {
+        let Number::Is(more) = appended(n, word[i]) else {
+            return Number::Bad;
+        };
+        n = more;
+        i += 1;
+    }
+    Number::Is(n)
+}
+
+pub enum Size {
+    Is(usize),
+    Bad,
+}
+
+// A number up to `most`.
+pub fn upto(word: &[u8], most: usize) -> Size {
+    let Number::Is(n) = decimal(word) else {
+        return Size::Bad;
+    };
+    if n <= most as u64 {
+        return Size::Is(n as usize);
+    }
+    Size::Bad
+}
