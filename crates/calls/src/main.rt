@@ -1,4 +1,6 @@
-// Public calls of the library, a line at a time: a test driver that holds one store and one output (docs, "Program calls").
+// Public calls of the library, a line at a time: a test driver that holds one store and one output, and writes a line of answer for
+// each line of its script. Words are parted by single spaces; bytes are lowercase hex, `-` for none; numbers are decimal; an answer
+// begins with the number of document 01. `?` answers a line that it does not know, bad hex, or a number that does not fit.
 //
 // Landed: every line of the base: buffer, load, poke, room, create, insert, modify, delete, get, first, next, count, empty, root,
 // full, keys, witness, krange, vrange, prefix, rebuild, hash, store, sum. None of the later requests.
