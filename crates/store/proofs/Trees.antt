@@ -1,16 +1,15 @@
 -- How often a slot stands in a tree, and how many nodes it has, node by node.
 -- Assumes nothing.
-use mathlib.Core.Path.{_≡_, refl, sym, ap, _∙_}
+use mathlib.Core.Path.{_≡_, refl, ap, _∙_}
 use mathlib.Core.Bool.{Bool}
-use mathlib.Core.Logic.{_⊎_, inl, inr}
 use mathlib.Core.List.{List, [], _∷_, _++_}
-use Prim.Native.Nat.{ℕ, zero, suc, _+_, _≤_}
+use Prim.Native.Nat.{ℕ, suc, _+_}
 use native.Mathlib.Omega.{arith}
 use lib.ListN.{length}
-use Rattle.llrb.specs.Tree.{Entry, Tree, nil, node, entries, size}
+use Rattle.llrb.specs.Tree.{Entry, Tree, node, entries, size}
 use Rattle.llrb.specs.Map.{slots, Without, here, next}
 use Rattle.store.specs.Counts.{is, occurs}
-use Rattle.store.specs.Counting.{occurs-append, either}
+use Rattle.store.specs.Counting.{occurs-append}
 use Rattle.store.specs.Model.{slotsOf}
 
 slots-append : (L M : List Entry) → slots (L ++ M) ≡ slots L ++ slots M
@@ -33,20 +32,3 @@ size-slots t = go (entries t)
 pub occurs-without : (x : ℕ) {s : ℕ} {L M : List ℕ} → Without s L M → occurs x L ≡ is x s + occurs x M
 occurs-without x here = refl
 occurs-without x (next w) = omega (arith, occurs-without x w)
-
--- where a slot of a node is: at its top, on its left, on its right
-pub data Where (x : ℕ) (e : Entry) (l r : Tree) : Type 0 where
-  top : 1 ≤ is x (e .slot) → Where x e l r
-  left : 1 ≤ occurs x (slotsOf l) → Where x e l r
-  right : 1 ≤ occurs x (slotsOf r) → Where x e l r
-
-pub find-slot : (x : ℕ) (c : Bool) (e : Entry) (l r : Tree) → 1 ≤ occurs x (slotsOf (node c e l r)) → Where x e l r
-find-slot x c e l r p = go (either (is x (e .slot)) (occurs x (slotsOf l) + occurs x (slotsOf r)) (omega (arith, slots-node x c e l r)))
-  where
-    side : (1 ≤ occurs x (slotsOf l)) ⊎ (1 ≤ occurs x (slotsOf r)) → Where x e l r
-    side (inl h) = left h
-    side (inr h) = right h
-
-    go : (1 ≤ is x (e .slot)) ⊎ (1 ≤ occurs x (slotsOf l) + occurs x (slotsOf r)) → Where x e l r
-    go (inl h) = top h
-    go (inr h) = side (either (occurs x (slotsOf l)) (occurs x (slotsOf r)) h)
