@@ -1,6 +1,6 @@
 -- The table of the starred examples holds. Digests stay shut: no example computes one.
 -- Assumes nothing.
-use mathlib.Core.Path.{_≡_, refl, ap, _∙_}
+use mathlib.Core.Path.{_≡_, refl, ap, sym, _∙_}
 use mathlib.Core.List.{List, [], _∷_, _++_}
 use Prim.Native.Nat.{ℕ, _≤_}
 use native.Mathlib.Omega.{arith}
@@ -13,7 +13,8 @@ use Rattle.slots.specs.Layout.{header, headAt, keyAt, valueAt, digestAt, place,
 use Rattle.slots.specs.Setters.{putRoom, setHeader, setSlot, setDigest, withSlots, bytesOf}
 use Rattle.hash_tree.specs.HashTree.{HashTree, Empty, Fork, Labeled, Leaf, Pruned, labeledHash, leafHash}
 use Rattle.hash_tree.specs.Written.{piece, write}
-use Rattle.llrb.specs.Tree.{nil, balance, get, insertGo, insert, size}
+use Rattle.llrb.specs.Tree.{nil, balance, get, insertGo, insert, size, entries}
+use Rattle.llrb.specs.Map.{Pair, pairs}
 use Rattle.llrb.specs.Delete.{readyLeft, readyRight, leanRight, deleteMin, deleteGo, ready, delete, freed}
 use Rattle.llrb.specs.Digests.{subtreeDigest}
 use Rattle.llrb.specs.Path.{subtreeAt}
@@ -29,7 +30,7 @@ use Rattle.store.specs.Calls.{insertIn, deleteIn, ofKey, ofRange, createAnswer,
 use Rattle.store.specs.History.{Edit, Insert, Delete, storeAfter, modelAfter}
 use Rattle.store.proofs.Running.{store-holds, store-decodes}
 use Rattle.store.proofs.Witnessing.{has-room, no-room}
-use Rattle.examples.specs.Examples.{a, b, c, d, aa, ba, bb, black, red, abc, dcba, prefixes, filled, cut, whole, Examples}
+use Rattle.examples.specs.Examples.{a, b, c, d, aa, ba, bb, black, red, abc, dcba, prefixes, SameMap, filled, cut, whole, Examples}
 
 -- the store after a history of n slots holds the model after it
 held : (h : List Edit) → Represents (storeAfter 4 h) (modelAfter 4 h)
@@ -60,6 +61,13 @@ four-is = refl
 turned-is : modelAfter 4 dcba .tree ≡ black 2 c (3 ∷ []) (black 3 b (2 ∷ []) (red 4 a (1 ∷ []) nil nil) nil) (black 1 d (4 ∷ []) nil nil)
 unfolding modelAfter fresh insertIn inserted insert insertGo balance get cmp
 turned-is = refl
+
+same-is : SameMap (modelAfter 4 dcba .tree) (modelAfter 4 (Insert d (4 ∷ []) ∷ abc) .tree)
+unfolding modelAfter fresh insertIn inserted insert insertGo balance get cmp
+same-is = refl
+
+map-of : (h : List Edit) → SameMap (decode (storeAfter 4 h) .tree) (modelAfter 4 h .tree)
+map-of h = ap (λ (m : Model). pairs (entries (m .tree))) (decoded h)
 
 deleted-is : modelAfter 4 (Delete b ∷ abc) ≡ record { capacity = 4; tree = black 2 c (3 ∷ []) (red 1 a (1 ∷ []) nil nil) nil; free = 3 ∷ 4 ∷ [] }
 unfolding modelAfter fresh insertIn inserted insert insertGo balance get cmp deleteIn deleted delete deleteGo deleteMin ready readyLeft readyRight leanRight size freed
@@ -134,6 +142,7 @@ examples =
       three = ap (λ (m : Model). m .tree) (decoded abc ∙ three-is);
       four = ap (λ (m : Model). m .tree) (decoded (Insert d (4 ∷ []) ∷ abc)) ∙ four-is;
       turned = ap (λ (m : Model). m .tree) (decoded dcba) ∙ turned-is;
+      same = map-of dcba ∙ same-is ∙ sym (map-of (Insert d (4 ∷ []) ∷ abc));
       deleted = decoded (Delete b ∷ abc) ∙ deleted-is;
       heads = ap (λ (h : Header). h .free) (held (Delete b ∷ abc) .laid .header) ∙ ap (λ (m : Model). head (m .free)) deleted-is;
       between = gap-witness;

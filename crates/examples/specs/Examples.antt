@@ -9,7 +9,8 @@ use Rattle.key_order.specs.Order.{Key}
 use Rattle.slots.specs.Layout.{header, zeros}
 use Rattle.hash_tree.specs.HashTree.{HashTree, Fork, Labeled, Pruned, labeledHash, leafHash}
 use Rattle.hash_tree.specs.Written.{write}
-use Rattle.llrb.specs.Tree.{Value, Tree, nil, node}
+use Rattle.llrb.specs.Tree.{Value, Tree, nil, node, entries}
+use Rattle.llrb.specs.Map.{pairs}
 use Rattle.witness_trees.specs.Reading.{labels}
 use Rattle.witness_trees.specs.Witness.{keysWithPrefix}
 use Rattle.store.specs.Decode.{decode}
@@ -55,6 +56,10 @@ dcba = Insert a (1 ∷ []) ∷ Insert b (2 ∷ []) ∷ Insert c (3 ∷ []) ∷ I
 abbrev pub prefixes : List Edit
 prefixes = Insert c [] ∷ Insert ba [] ∷ Insert b [] ∷ Insert a [] ∷ []
 
+-- maps are equal when their keys and values are, whatever the shapes and so the root digests
+abbrev pub SameMap : Tree → Tree → Type 0
+SameMap t u = pairs (entries t) ≡ pairs (entries u)
+
 -- 0, these bytes at the front of the output, and the rest of the output as found
 abbrev pub filled : (witness out : List ℕ) → Written
 filled witness out = record { number = 0; size = length witness; output = witness ++ drop (length witness) out }
@@ -87,6 +92,8 @@ pub record Examples : Type 0 where
   -- insert d, c, b, a: c over b and d, b black over red left a
   pub turned : decode (storeAfter 4 dcba) .tree
       ≡ black 2 c (3 ∷ []) (black 3 b (2 ∷ []) (red 4 a (1 ∷ []) nil nil) nil) (black 1 d (4 ∷ []) nil nil)
+  -- the same map as the line above, another shape
+  pub same : SameMap (decode (storeAfter 4 dcba) .tree) (decode (storeAfter 4 (Insert d (4 ∷ []) ∷ abc)) .tree)
   -- insert a, b, c, delete b: slot 2 is the root, holds c, with red a on its left; slot 3 heads the free chain
   pub deleted : decode (storeAfter 4 (Delete b ∷ abc))
       ≡ record { capacity = 4; tree = black 2 c (3 ∷ []) (red 1 a (1 ∷ []) nil nil) nil; free = 3 ∷ 4 ∷ [] }
