@@ -8,7 +8,6 @@ pub mod Cutting
 pub mod Going
 pub mod Inserting
 pub mod Modifying
-pub mod Searching
 pub mod Deleting
 pub mod Storing
 pub mod Asking

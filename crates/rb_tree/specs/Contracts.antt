@@ -14,16 +14,7 @@ use Rattle.llrb.specs.Shape.{Lawful}
 use Rattle.llrb.specs.Panic.{andThen, flipColorsP, moveRedLeft₂P, moveRedRight₂P, deleteMinP, deleteGoP}
 use Rattle.store.specs.Counts.{is}
 use Rattle.store.specs.Sound.{Digests}
-use Rattle.rb_tree.specs.declared.Found.{Found}
-use Rattle.rb_tree.specs.declared.Found.the-variants.{At, Nothing}
 use Rattle.rb_nodes.specs.Heap.{count, Held, Full, nothing, only, Step, Turn, hangRight}
-
--- ---- get
-
--- the slot of the entry that the search finds
-abbrev pub foundOf : Option Entry → Found
-foundOf none = Nothing
-foundOf (some e) = At (e .slot)
 
 -- ---- insert
 

@@ -1,4 +1,5 @@
-// The Rust's `rb_tree` over the slots of a store: search, insert, modify, delete. A slot number stands for a `Box`, 0 for `None`.
+// The Rust's `rb_tree` over the slots of a store: insert, modify, delete. A slot number stands for a `Box`, 0 for `None`.
+use search::Found;
 ghost use mathlib.Core.Path.{_≡_};
 ghost use mathlib.Core.Option.{some};
 ghost use mathlib.Core.Bool.{false};
@@ -10,14 +11,8 @@ ghost use Rattle.llrb.specs.Panic.{moveRedLeft₂P, moveRedRight₂P, readyLeft
 ghost use Rattle.store.specs.Model.{Model, modified, deleted};
 ghost use Rattle.store.specs.Sound.{Digests, Represents, Sound};
 ghost use Rattle.rb_nodes.specs.Heap.{Held, Full, HasTree, HasFull, Turn, Can, Does, CanAt, DoesAt};
-ghost use Rattle.rb_tree.specs.Contracts.{foundOf, CanInsert, DoesInsert, DoesPut, CanModify, DoesModify, moveRedLeftP, moveRedRightP, CanMin, DoesMin, CanNext, DoesNext, CanDelete, DoesDelete, CanCut, DoesCut};
+ghost use Rattle.rb_tree.specs.Contracts.{CanInsert, DoesInsert, DoesPut, CanModify, DoesModify, moveRedLeftP, moveRedRightP, CanMin, DoesMin, CanNext, DoesNext, CanDelete, DoesDelete, CanCut, DoesCut};
 ghost use Rattle.rb_tree.specs.Stores.{Asked, AfterInsert, AfterChange};
-
-// What a search finds: the slot of the key's entry, or nothing.
-pub enum Found {
-    At(usize),
-    Nothing,
-}
 
 // The entry is in the map, or there was no free slot for a new key.
 pub enum Inserted {
@@ -35,27 +30,6 @@ pub enum Changed {
 pub struct Cut {
     pub top: usize,
     pub freed: usize,
-}
-
-// ---- get
-
-// The entry of the key below slot `h`.
-pub fn get(s: &[u8], h: usize, key: &[u8]) -> Found
-    requires { ⌜ HasTree (now s) h ⌝ }
-    ensures { λ r. ⌜ ((t : Tree) → Held (now (s .entry)) h t → r ≡ foundOf (get (now (key .entry)) t)) ⌝ }
-{
-    let mut at = h;
-    loop {
-        if at == 0 {
-            break Found::Nothing;
-        }
-        let o = rb_nodes::compare_key(s, at, key);
-        match o {
-            key_order::Ordering::Equal => break Found::At(at),
-            key_order::Ordering::Less => at = slots::left(s, at),
-            key_order::Ordering::Greater => at = slots::right(s, at),
-        }
-    }
 }
 
 // ---- insert
@@ -109,7 +83,7 @@ pub fn insert(s: &mut [u8], key: &[u8], value: &[u8]) -> Inserted
     let h = slots::header_of(s);
     let root = h.root;
     let x = h.free;
-    let Found::Nothing = get(s, root, key) else {
+    let Found::Nothing = search::get(s, root, key) else {
         let top = put(s, root, x, key, value);
         slots::set_root(s, top);
         return Inserted::Done;
@@ -171,7 +145,7 @@ pub fn modify(s: &mut [u8], key: &[u8], value: &[u8]) -> Changed
     ensures { λ r. ⌜ ((m : Model) → Represents (now (s .entry)) m → AfterChange (now (key .entry)) (now (s .entry)) (now (s .exit)) m (modified (now (key .entry)) (now (value .entry)) m) r) ⌝ }
 {
     let root = slots::header_of(s).root;
-    let Found::At(_) = get(s, root, key) else {
+    let Found::At(_) = search::get(s, root, key) else {
         return Changed::Absent;
     };
     modify_go(s, root, key, value);
@@ -404,7 +378,7 @@ pub fn delete(s: &mut [u8], key: &[u8]) -> Changed
 {
     let h = slots::header_of(s);
     let root = h.root;
-    let Found::At(_) = get(s, root, key) else {
+    let Found::At(_) = search::get(s, root, key) else {
         return Changed::Absent;
     };
     let c = cut_out(s, root, key);

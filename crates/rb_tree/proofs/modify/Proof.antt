@@ -1,6 +1,6 @@
 use native.Mathlib.Omega.{arith}
 use mathlib.Core.Path.{refl}
-use Rattle.rb_tree.proofs.Asking.{held-at, root-is, there, not-there, says-absent, says-present}
+use Rattle.rb_tree.proofs.Asking.{held-at, tree-at, root-is, there, not-there, says-absent, says-present}
 use Rattle.rb_tree.proofs.Removing.{changed}
 use borrow.Author.Needs.{needs}
 use Rattle.rb_tree.proofs.modify.Statement.{statement}
@@ -13,7 +13,7 @@ header-of-requires c κs = search needs
 -- src/lib.rt:164:24
 get-requires : tie.Need-get-requires
 get-requires c κs =
-    (c .before .before .before .before .before .before .pre .0 .0 .tree, held-at (c .before .header-of .ensures) (c .before .before .before .before .before .before .pre .0 .1))
+    tree-at (c .before .header-of .ensures) (c .before .before .before .before .before .before .pre .0 .1)
 
 enum-told : tie.Need-enum-told
 enum-told c = search needs
