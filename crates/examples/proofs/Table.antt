@@ -14,7 +14,7 @@ use Rattle.slots.specs.Setters.{putRoom, setHeader, setSlot, setDigest, withSlo
 use Rattle.hash_tree.specs.HashTree.{HashTree, Empty, Fork, Labeled, Leaf, Pruned, labeledHash, leafHash}
 use Rattle.hash_tree.specs.Written.{piece, write}
 use Rattle.llrb.specs.Tree.{nil, balance, get, insertGo, insert, size, entries}
-use Rattle.llrb.specs.Map.{Pair, pairs}
+use Rattle.llrb.specs.Map.{pairs}
 use Rattle.llrb.specs.Delete.{readyLeft, readyRight, leanRight, deleteMin, deleteGo, ready, delete, freed}
 use Rattle.llrb.specs.Digests.{subtreeDigest}
 use Rattle.llrb.specs.Path.{subtreeAt}

@@ -1,20 +1,20 @@
 -- The judgement as a whole: each step holds of a sound store, and together they make a store sound.
 -- Assumes nothing.
 use mathlib.Core.Path.{_≡_, refl, sym, ap, subst, _∙_}
-use mathlib.Core.Bool.{Bool, true, false}
+use mathlib.Core.Bool.{Bool, true}
 use mathlib.Core.List.{List, [], _∷_, _++_}
-use Prim.Native.Nat.{ℕ, zero, suc, _+_, _-_, _*_, _≤_, _<_}
+use Prim.Native.Nat.{ℕ, zero, _+_, _-_, _≤_}
 use native.Mathlib.Omega.{arith}
 use lib.ListN.{length}
 use Rattle.slots.specs.declared.Header.{Header}
-use Rattle.slots.specs.Layout.{storeLength, HasSlot, header, Slot, slot, Decides}
+use Rattle.slots.specs.Layout.{header, Slot, slot, Decides}
 use Rattle.slots.proofs.Lenses.{slot-fits}
 use Rattle.llrb.specs.Tree.{Entry, Tree, nil, node, entries, size}
 use Rattle.llrb.proofs.Height.{height-20}
-use Rattle.store.specs.Counts.{is, occurs}
+use Rattle.store.specs.Counts.{occurs}
 use Rattle.store.specs.Counting.{is-self}
-use Rattle.store.specs.Model.{Model, slotsOf, root, head}
-use Rattle.store.specs.Sound.{Nodes, Chain, Short, Represents, Sound}
+use Rattle.store.specs.Model.{Model, slotsOf, root}
+use Rattle.store.specs.Sound.{Nodes, Short, Sound}
 use Rattle.store.proofs.Trees.{slots-node}
 use Rattle.store.proofs.Decoding.{live-and-free}
 use Rattle.store.proofs.Operating.{tree-lawful}

@@ -11,7 +11,7 @@ use native.Mathlib.Omega.{arith}
 use lib.Dec.{eqb}
 use lib.ListN.{length, length-append}
 use borrow.Author.Tests.{eqb-true, eqb-false}
-use Rattle.key_order.specs.Order.{Key, cmp}
+use Rattle.key_order.specs.Order.{cmp}
 use Rattle.key_order.proofs.Laws.{cmp-refl, lt≢eq}
 use Rattle.slots.specs.Layout.{Slot, slot, keyOf}
 use Rattle.llrb.specs.Tree.{Entry, Tree, nil, node, entries, size}
@@ -19,7 +19,7 @@ use Rattle.llrb.specs.Sorted.{Above, Sorted}
 use Rattle.llrb.specs.Map.{slots}
 use Rattle.store.specs.Counts.{is, occurs, numbersTo}
 use Rattle.store.specs.Counting.{is-self, is-other, is-same, occurs-append, either, numbers-in, numbers-low, numbers-high}
-use Rattle.store.specs.Model.{slotsOf, root, head}
+use Rattle.store.specs.Model.{slotsOf, root}
 use Rattle.store.specs.Sound.{Nodes, Chain}
 use Rattle.slots.proofs.Writing.{node-key}
 use Rattle.store.proofs.Trees.{size-slots, slots-node}

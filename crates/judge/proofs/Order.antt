@@ -3,7 +3,7 @@
 use mathlib.Core.Path.{_≡_, refl}
 use mathlib.Core.List.{List, [], _∷_, _++_}
 use Rattle.key_order.specs.Order.{Key, cmp}
-use Rattle.key_order.specs.declared.Ordering.the-variants.{Less, Equal, Greater}
+use Rattle.key_order.specs.declared.Ordering.the-variants.{Less}
 use Rattle.key_order.proofs.Laws.{cmp-trans}
 use Rattle.llrb.specs.Tree.{Entry}
 use Rattle.llrb.specs.Sorted.{Above, Sorted}

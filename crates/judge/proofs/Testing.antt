@@ -3,7 +3,7 @@
 use mathlib.Core.Path.{_≡_, refl, sym, ap, subst, _∙_}
 use mathlib.Core.Bool.{Bool, true, false, not, true≢false}
 use mathlib.Core.List.{List}
-use Prim.Native.Nat.{ℕ, zero, suc, _+_, _-_, _≤_}
+use Prim.Native.Nat.{ℕ, zero, suc, _-_, _≤_}
 use native.Mathlib.Omega.{arith}
 use lib.Dec.{eqb}
 use lib.ListN.{length, take, length-append}
@@ -17,8 +17,8 @@ use Rattle.slots.specs.declared.Head.{Head}
 use Rattle.slots.specs.Layout.{HasSlot, Decides, Slot, slot, headOf, keyOf, valueOf, digestOf, padded, zeros, IsEntry}
 use Rattle.slots.proofs.Lenses.{slot-fits}
 use Rattle.llrb.specs.Digests.{nodeDigest}
-use Rattle.judge.specs.Rising.{Bound, none, over, Past}
-use Rattle.judge.specs.Steps.{Sized, ShortHead, linkedDigest, NodeOk, boundOf, Met}
+use Rattle.judge.specs.Rising.{Bound, over, Past}
+use Rattle.judge.specs.Steps.{Sized, ShortHead, linkedDigest, NodeOk, boundOf}
 
 -- a colour that is free
 pub any-colour : (red black : Bool) → not black ≡ true → black ≡ true → red ≡ false

@@ -3,9 +3,9 @@
 use mathlib.Core.Path.{_≡_, refl, sym, ap, _∙_}
 use mathlib.Core.Bool.{Bool}
 use mathlib.Core.List.{List, [], _∷_}
-use Prim.Native.Nat.{ℕ, _≤_}
+use Prim.Native.Nat.{ℕ}
 use native.Mathlib.Omega.{arith}
-use Rattle.slots.specs.Layout.{Slot, slot, keyOf, valueOf, nodeSlot, freeSlot}
+use Rattle.slots.specs.Layout.{Slot, slot, keyOf, valueOf, nodeSlot}
 use Rattle.llrb.specs.Tree.{Entry, Tree, nil, node}
 use Rattle.store.specs.Model.{root, head}
 use Rattle.store.specs.Sound.{Nodes, Chain}

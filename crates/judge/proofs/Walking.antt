@@ -1,21 +1,19 @@
 -- The walk over a subtree: what it found on the way is the tree, and where it stopped there is none.
 -- Assumes nothing.
 use mathlib.Core.Path.{_≡_, refl, sym, ap, subst, _∙_}
-use mathlib.Core.Bool.{Bool, true, false, true≢false, cond}
-use mathlib.Core.List.{List, [], _∷_}
-use Prim.Native.Nat.{ℕ, zero, suc, _+_, _-_, _≤_, _<_, max}
-use native.Mathlib.Nat.{not-suc-le-zero}
+use mathlib.Core.Bool.{Bool, true, false, cond}
+use mathlib.Core.List.{List}
+use Prim.Native.Nat.{ℕ, _+_, _-_, _≤_, _<_}
 use native.Mathlib.Omega.{arith}
 use lib.Dec.{eqb}
-use lib.ListN.{length}
 use borrow.Author.Tests.{eqb-true, eqb-false, ne-eqb, eq-eqb}
 use Rattle.hash_tree.specs.HashTree.{Digest, forkHash, labeledHash, leafHash}
 use Rattle.slots.specs.Layout.{Slot, slot, digestOf, keyOf, valueOf, nodeSlot, IsEntry}
 use Rattle.llrb.specs.Tree.{Entry, Tree, nil, node, isRed, entries, size}
-use Rattle.llrb.specs.Shape.{RedsApart, LeansLeft, Blacks, SameBlacks, height}
+use Rattle.llrb.specs.Shape.{Blacks, SameBlacks, height}
 use Rattle.llrb.specs.Digests.{isNil, nodeDigest, subtreeDigest}
 use Rattle.store.specs.Model.{root}
-use Rattle.store.specs.Sound.{Nodes, Digests}
+use Rattle.store.specs.Sound.{Digests}
 use Rattle.slots.proofs.Writing.{node-key, node-value}
 use Rattle.llrb.proofs.Height.{size-node}
 use Rattle.judge.specs.declared.Trail.{Trail}

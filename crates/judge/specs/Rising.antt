@@ -3,7 +3,7 @@
 use mathlib.Core.Path.{_≡_}
 use mathlib.Core.List.{List, [], _∷_}
 use Rattle.key_order.specs.Order.{Key, cmp}
-use Rattle.key_order.specs.declared.Ordering.the-variants.{Less, Equal, Greater}
+use Rattle.key_order.specs.declared.Ordering.the-variants.{Less}
 use Rattle.llrb.specs.Tree.{Entry}
 
 pub data Bound : Type 0 where

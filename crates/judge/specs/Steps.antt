@@ -10,7 +10,7 @@ use Rattle.hash_tree.specs.HashTree.{Digest, labeledHash, leafHash}
 use Rattle.slots.specs.declared.Header.{Header}
 use Rattle.slots.specs.declared.Head.{Head}
 use Rattle.slots.specs.Layout.{storeLength, Slot, slot, digestOf, keyOf, valueOf, IsEntry, IsFree}
-use Rattle.llrb.specs.Tree.{Entry, Tree, nil, node, isRed, entries, size}
+use Rattle.llrb.specs.Tree.{Tree, nil, node, isRed, entries, size}
 use Rattle.llrb.specs.Shape.{RedsApart, LeansLeft, Blacks, SameBlacks, height}
 use Rattle.llrb.specs.Digests.{nodeDigest}
 use Rattle.store.specs.Model.{root, head}

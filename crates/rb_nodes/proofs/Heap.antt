@@ -3,7 +3,7 @@
 use mathlib.Core.Path.{_≡_, refl, sym, ap, subst, _∙_}
 use mathlib.Core.Bool.{Bool, true, false}
 use mathlib.Core.List.{List}
-use Prim.Native.Nat.{ℕ, zero, suc, _+_, _≤_, _<_}
+use Prim.Native.Nat.{ℕ, zero, suc, _≤_, _<_}
 use native.Mathlib.Omega.{arith}
 use native.Mathlib.Nat.{not-suc-le-zero}
 use lib.Dec.{eqb}
@@ -12,13 +12,16 @@ use borrow.Author.Tests.{eqb-true, eq-eqb}
 use Rattle.slots.specs.Layout.{HasSlot, Slot, slot, digestOf, nodeSlot, keyOf, valueOf}
 use Rattle.slots.specs.Setters.{Keeps, Wrote}
 use Rattle.slots.proofs.Writing.{keeps-has, key-fits, value-fits, node-key, node-value}
-use Rattle.llrb.specs.Tree.{Entry, Tree, nil, node, left, right}
-use Rattle.store.specs.Counts.{is}
+use Rattle.llrb.specs.Tree.{Entry, Tree, nil, node, left, right, size}
+use Rattle.llrb.proofs.Height.{size-node}
+use Rattle.store.specs.Counts.{is, occurs}
 use Rattle.store.specs.Counting.{is-self}
-use Rattle.store.specs.Model.{root}
+use Rattle.store.specs.Model.{slotsOf, root}
 use Rattle.store.specs.Sound.{Nodes, Digests}
-use Rattle.rb_nodes.specs.Heap.{count, Held, Full, weight, weigh, entriesBelow, LinksIn}
-use Rattle.rb_nodes.proofs.Counts.{is-eq, no-more, Where, at-top, at-left, at-right, find}
+use Rattle.store.specs.Decode.{entriesBelow}
+use Rattle.store.proofs.Decoding.{below-nodes}
+use Rattle.rb_nodes.specs.Heap.{count, Held, Full, LinksIn}
+use Rattle.rb_nodes.proofs.Counts.{occurs-count, is-eq, no-more, Where, at-top, at-left, at-right, find}
 
 -- ---- frames: what a change keeps outside the tree, it keeps of the tree
 
@@ -51,26 +54,18 @@ wrote-digests {s} {s′} {i} w j p = go (eqb j i) refl
 
 -- ---- the number of entries
 
-few : {s : List ℕ} {h : ℕ} (t : Tree) → Held s h t → weight t ≤ 2047
+few : {s : List ℕ} {h : ℕ} (t : Tree) → Held s h t → size t ≤ 2047
 few t a = no-more 2047 t (a .once) (λ x p. let i = a .inside x p in (i .low, omega (arith, i .high)))
 
-weighs : (n : ℕ) (s : List ℕ) (t : Tree) → Nodes s t → ((x : ℕ) → 1 ≤ count x t → 1 ≤ x) → weight t ≤ n → weigh n (slot s) (root t) ≡ weight t
-unfolding weigh
-weighs zero s nil m o p = refl
-weighs (suc n) s nil m o p = refl
-weighs zero s (node c e l r) m o p = absurd (not-suc-le-zero p)
-weighs (suc n) s (node c e l r) m o p =
-    go (e .slot) refl (weighs n s l (m .1) (λ x q. o x (omega arith)) (omega arith)) (weighs n s r (m .2) (λ x q. o x (omega arith)) (omega arith))
+low : {s : List ℕ} {h : ℕ} (t : Tree) → Held s h t → occurs 0 (slotsOf t) ≡ 0
+low t a = go (count 0 t) refl
   where
-    go : (h : ℕ) → e .slot ≡ h → weigh n (slot s) (root l) ≡ weight l → weigh n (slot s) (root r) ≡ weight r → weigh (suc n) (slot s) h ≡ suc (weight l + weight r)
-    go zero q x y = absurd (omega (arith, o (e .slot) (omega (arith, is-self (e .slot)))))
-    go (suc h) q x y =
-        let v : slot s (suc h) ≡ nodeSlot c (e .key) (e .value) (root l) (root r) = ap (slot s) (sym q) ∙ m .0 in
-        rw (v, x, y) refl
+    go : (n : ℕ) → count 0 t ≡ n → occurs 0 (slotsOf t) ≡ 0
+    go zero e = occurs-count 0 t ∙ e
+    go (suc n) e = absurd (omega (arith, a .inside 0 (omega arith) .low))
 
-pub below-held : (s : List ℕ) (h : ℕ) (t : Tree) → Held s h t → entriesBelow s h ≡ weight t
-unfolding entriesBelow
-below-held s h t a = ap (weigh 2047 (slot s)) (sym (a .top)) ∙ weighs 2047 s t (a .nodes) (λ x p. a .inside x p .low) (few t a)
+pub below-held : (s : List ℕ) (h : ℕ) (t : Tree) → Held s h t → entriesBelow s h ≡ size t
+below-held s h t a = below-nodes s h t (a .top) (a .nodes) (low t a) (few t a)
 
 -- ---- the parts
 
@@ -193,10 +188,10 @@ has-len {j = j} e p = subst (λ (z : ℕ). HasSlot z j) (sym e) p
 
 -- ---- the children have fewer entries
 
-pub lighter-left : (t : Tree) → Full t → weight (left t) < weight t
+pub lighter-left : (t : Tree) → Full t → size (left t) < size t
 lighter-left nil f = absurd f
-lighter-left (node c x l r) f = omega arith
+lighter-left (node c x l r) f = omega (arith, size-node c x l r)
 
-pub lighter-right : (t : Tree) → Full t → weight (right t) < weight t
+pub lighter-right : (t : Tree) → Full t → size (right t) < size t
 lighter-right nil f = absurd f
-lighter-right (node c x l r) f = omega arith
+lighter-right (node c x l r) f = omega (arith, size-node c x l r)

@@ -9,13 +9,14 @@ use lib.ListN.{length}
 use Rattle.slots.specs.Layout.{HasSlot, Slot, slot, digestOf, nodeSlot}
 use Rattle.slots.specs.Setters.{withLeft, withRight, withRed, setLeft, setRight, setRed, Wrote}
 use Rattle.slots.proofs.Writing.{keeps-refl, keeps-trans, keeps-more, keeps-has, wrote-left, wrote-right, wrote-red}
-use Rattle.llrb.specs.Tree.{Entry, Tree, nil, node, left, right, paint}
+use Rattle.llrb.specs.Tree.{Entry, Tree, nil, node, left, right, paint, size}
 use Rattle.store.specs.Counts.{is}
 use Rattle.store.specs.Counting.{is-self}
 use Rattle.store.specs.Model.{root}
 use Rattle.store.specs.Sound.{Digests}
-use Rattle.rb_nodes.specs.Heap.{count, Held, Full, weight, entriesBelow, Under, updateSubtreeHash, nothing, Step, Turn, hangLeft, hangRight}
-use Rattle.rb_nodes.proofs.Counts.{is-eq, apart, same-weight}
+use Rattle.store.specs.Decode.{entriesBelow}
+use Rattle.rb_nodes.specs.Heap.{count, Held, Full, Under, updateSubtreeHash, nothing, Step, Turn, hangLeft, hangRight}
+use Rattle.rb_nodes.proofs.Counts.{is-eq, apart, same-size}
 use Rattle.rb_nodes.proofs.Heap.{frame-held, frame-dig, node-held, below-held, slot-top, top-in, kid-left, kid-right, top-one, top-not-left, top-not-right, top-lt, full-in, sub-left, sub-right, lighter-left, lighter-right, has-len}
 use Rattle.rb_nodes.proofs.Hashing.{wrote-hash, hash-right, digest-colour}
 
@@ -62,16 +63,16 @@ full-turn {t = t} {u = u} x f = go t u f (x .slots (root t))
     go (node c e l r) nil f q = omega (arith, is-self (e .slot))
     go (node c e l r) (node d x ll lr) f q = tt
 
-turn-weight : {D E : List ℕ → Tree → Type 0} {s s′ : List ℕ} {r : ℕ} {t u : Tree} → Turn D E s s′ r t u → weight u ≡ weight t
-turn-weight {t = t} {u = u} x = same-weight t u (λ y. omega (arith, x .slots y))
+turn-size : {D E : List ℕ → Tree → Type 0} {s s′ : List ℕ} {r : ℕ} {t u : Tree} → Turn D E s s′ r t u → size u ≡ size t
+turn-size {t = t} {u = u} x = same-size t u (λ y. omega (arith, x .slots y))
 
 -- a call is made on fewer entries
 module _ {D E : List ℕ → Tree → Type 0} {s s1 : List ℕ} {h g q b : ℕ} {t v : Tree} (a : Held s h t) (x : Turn D E s s1 g t v) (f : Full v) (w : entriesBelow s h ≡ b) where
   pub falls-left : q ≡ slot s1 g .left → entriesBelow s1 q < b
-  falls-left e = omega (arith, below-held s h t a, below-held s1 q (left v) (sub-left v (x .held) f e), lighter-left v f, turn-weight x)
+  falls-left e = omega (arith, below-held s h t a, below-held s1 q (left v) (sub-left v (x .held) f e), lighter-left v f, turn-size x)
 
   pub falls-right : q ≡ slot s1 g .right → entriesBelow s1 q < b
-  falls-right e = omega (arith, below-held s h t a, below-held s1 q (right v) (sub-right v (x .held) f e), lighter-right v f, turn-weight x)
+  falls-right e = omega (arith, below-held s h t a, below-held s1 q (right v) (sub-right v (x .held) f e), lighter-right v f, turn-size x)
 
 -- ---- the top written over: another colour or entry; below it all stays
 

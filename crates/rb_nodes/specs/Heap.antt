@@ -8,7 +8,7 @@ use mathlib.Core.Option.{Option, some}
 use Prim.Native.Nat.{ℕ, zero, suc, _+_, _≤_}
 use lib.ListN.{length}
 use Rattle.hash_tree.specs.HashTree.{Digest, labeledHash, leafHash}
-use Rattle.slots.specs.Layout.{HasSlot, Slot, slot, digestOf, keyOf, valueOf}
+use Rattle.slots.specs.Layout.{HasSlot, slot, digestOf, keyOf, valueOf}
 use Rattle.slots.specs.Setters.{setDigest, Keeps}
 use Rattle.llrb.specs.Tree.{Tree, nil, node}
 use Rattle.llrb.specs.Digests.{nodeDigest}
@@ -38,21 +38,6 @@ HasTree s h = (t : Tree) × Held s h t
 
 abbrev pub HasFull : List ℕ → ℕ → Type 0
 HasFull s h = (t : Tree) × Held s h t × Full t
-
--- ---- the number that falls: the entries below slot h, found by the links
-
-abbrev pub weight : Tree → ℕ
-weight nil = 0
-weight (node c e l r) = suc (weight l + weight r)
-
--- a store has fewer than 2,048 slots, so 2,047 are enough
-unfoldable pub weigh : (fuel : ℕ) → (ℕ → Slot) → ℕ → ℕ
-weigh zero m p = 0
-weigh (suc n) m zero = 0
-weigh (suc n) m (suc p) = suc (weigh n m (m (suc p) .left) + weigh n m (m (suc p) .right))
-
-unfoldable pub entriesBelow : List ℕ → ℕ → ℕ
-entriesBelow s h = weigh 2047 (slot s) h
 
 -- ---- digests
 

@@ -18,7 +18,8 @@ use Rattle.store.specs.Counts.{is}
 use Rattle.store.specs.Counting.{is-self}
 use Rattle.store.specs.Model.{root}
 use Rattle.store.specs.Sound.{Nodes, Digests}
-use Rattle.rb_nodes.specs.Heap.{count, Held, Full, HasFull, entriesBelow, Under, nothing, only, Step, Turn, Does, CanAt, DoesAt, hangRight}
+use Rattle.store.specs.Decode.{entriesBelow}
+use Rattle.rb_nodes.specs.Heap.{count, Held, Full, HasFull, Under, nothing, only, Step, Turn, Does, CanAt, DoesAt, hangRight}
 use Rattle.rb_nodes.proofs.Counts.{is-eq}
 use Rattle.rb_nodes.proofs.Heap.{below-held, slot-top, top-in, held-nil, full-in, sub-left, sub-right, full-some, empty, lighter-left}
 use Rattle.rb_nodes.proofs.Steps.{loosen, lower, top-wrote, falls-left, none-in}

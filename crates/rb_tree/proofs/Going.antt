@@ -14,7 +14,8 @@ use Rattle.llrb.specs.Tree.{Tree, left, right, balance}
 use Rattle.llrb.specs.Panic.{readyLeftP, readyRightP, leanRightP, balanceP, deleteMinP, deleteGoP}
 use Rattle.llrb.proofs.Safe.{safe-balance}
 use Rattle.store.specs.Sound.{Digests}
-use Rattle.rb_nodes.specs.Heap.{Held, Full, HasFull, entriesBelow, Under, nothing, only, Step, Turn, Does, CanAt, DoesAt, hangRight}
+use Rattle.store.specs.Decode.{entriesBelow}
+use Rattle.rb_nodes.specs.Heap.{Held, Full, HasFull, Under, nothing, only, Step, Turn, Does, CanAt, DoesAt, hangRight}
 use Rattle.rb_nodes.proofs.Heap.{full-in, sub-left, sub-right, full-some, empty}
 use Rattle.rb_nodes.proofs.Steps.{after, lower, falls-left, falls-right, none-in}
 use Rattle.rb_nodes.proofs.Option.{same}

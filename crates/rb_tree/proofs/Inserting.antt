@@ -22,7 +22,8 @@ use Rattle.llrb.proofs.Safe.{safe-balance}
 use Rattle.store.specs.Counts.{is}
 use Rattle.store.specs.Counting.{is-same}
 use Rattle.store.specs.Sound.{Digests}
-use Rattle.rb_nodes.specs.Heap.{count, Held, Full, LinksIn, entriesBelow, Under, updateSubtreeHash, nothing, Step, Turn, CanAt, DoesAt, hangLeft, hangRight}
+use Rattle.store.specs.Decode.{entriesBelow}
+use Rattle.rb_nodes.specs.Heap.{count, Held, Full, LinksIn, Under, updateSubtreeHash, nothing, Step, Turn, CanAt, DoesAt, hangLeft, hangRight}
 use Rattle.rb_nodes.proofs.Counts.{is-eq, is-most}
 use Rattle.rb_nodes.proofs.Heap.{slot-top, top-in, held-nil, node-held, full-some, sub-left, sub-right, empty, links-in}
 use Rattle.rb_nodes.proofs.Steps.{stay, after, before, loosen, lower, top-wrote, refresh, falls-left, falls-right}

@@ -13,7 +13,8 @@ use Rattle.slots.specs.Layout.{slot, keyOf}
 use Rattle.slots.specs.Setters.{setValue}
 use Rattle.llrb.specs.Tree.{Value, Tree, nil, node, left, right, modify}
 use Rattle.store.specs.Sound.{Digests}
-use Rattle.rb_nodes.specs.Heap.{Held, Full, LinksIn, entriesBelow, Under, updateSubtreeHash, Turn, hangLeft, hangRight}
+use Rattle.store.specs.Decode.{entriesBelow}
+use Rattle.rb_nodes.specs.Heap.{Held, Full, LinksIn, Under, updateSubtreeHash, Turn, hangLeft, hangRight}
 use Rattle.rb_nodes.proofs.Heap.{top-in, full-some, sub-left, sub-right, links-in}
 use Rattle.rb_nodes.proofs.Steps.{stay, after, loosen, refresh, falls-left, falls-right, inside-left, inside-right}
 use Rattle.rb_tree.specs.Contracts.{CanModify, DoesModify}

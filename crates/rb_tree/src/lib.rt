@@ -1,9 +1,8 @@
 // The Rust's `rb_tree` over the slots of a store: insert, modify, delete. A slot number stands for a `Box`, 0 for `None`.
 use search::Found;
 ghost use mathlib.Core.Path.{_≡_};
-ghost use mathlib.Core.Option.{some};
 ghost use mathlib.Core.Bool.{false};
-ghost use Prim.Native.Nat.{ℕ, _≤_};
+ghost use Prim.Native.Nat.{_≤_};
 ghost use lib.ListN.{length};
 ghost use Rattle.llrb.specs.Tree.{Tree, Entry, get, paint};
 ghost use Rattle.llrb.specs.Delete.{least, ready};

@@ -4,12 +4,13 @@
 use mathlib.Core.Path.{_≡_, refl, sym, ap, _∙_}
 use mathlib.Core.Bool.{Bool}
 use mathlib.Core.List.{List}
-use Prim.Native.Nat.{ℕ, suc, _+_, _<_}
+use Prim.Native.Nat.{ℕ, _<_}
 use native.Mathlib.Omega.{arith}
 use Rattle.slots.specs.Layout.{slot, keyOf}
 use Rattle.llrb.specs.Tree.{Entry, Tree, nil, node, size}
 use Rattle.llrb.proofs.Height.{size-node}
-use Rattle.search.specs.Search.{Lies, HasTree, entriesBelow, EntryAt}
+use Rattle.store.specs.Decode.{entriesBelow}
+use Rattle.search.specs.Search.{Lies, HasTree, EntryAt}
 use Rattle.search.proofs.Lying.{top-in, top-key, top-entry, lies-left, lies-right, one-tree, below-lies}
 
 pub record Along {B D R : Type 0} (F : B → Tree → R) (shows : B → D) (z : B) (s : List ℕ) (h a : ℕ) (d : D) : Type 0 where

@@ -1,6 +1,6 @@
 -- What a search finds is an entry of the tree; so it lies in its slot, and its place is what the public calls answer.
 -- Assumes nothing.
-use mathlib.Core.Path.{_≡_, refl, sym, ap, subst, _∙_}
+use mathlib.Core.Path.{_≡_, refl, sym, ap, _∙_}
 use mathlib.Core.Bool.{Bool, true, false, cond}
 use mathlib.Core.List.{List}
 use mathlib.Core.Option.{Option, none, some}
@@ -10,7 +10,7 @@ use borrow.Author.Tests.{le-ltb}
 use Rattle.key_order.specs.Order.{Key, cmp, isPrefixOf}
 use Rattle.slots.specs.declared.Head.{Head}
 use Rattle.slots.specs.Layout.{header, slot, headOf, keyAt, valueAt}
-use Rattle.llrb.specs.Tree.{Entry, Tree, nil, node, entries, get}
+use Rattle.llrb.specs.Tree.{Entry, Tree, nil, node, get}
 use Rattle.llrb.specs.Delete.{least}
 use Rattle.llrb.specs.Iterate.{firstEntry, orEntry, nextEntry}
 use Rattle.llrb.proofs.Iterate.{first-head, next-above}

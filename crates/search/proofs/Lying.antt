@@ -3,23 +3,23 @@
 use mathlib.Core.Path.{_≡_, refl, sym, ap, subst, _∙_}
 use mathlib.Core.Bool.{Bool}
 use mathlib.Core.List.{List}
-use Prim.Native.Nat.{ℕ, zero, suc, _+_, _≤_, _<_}
+use Prim.Native.Nat.{ℕ, _≤_}
 use native.Mathlib.Omega.{arith}
-use native.Mathlib.Nat.{not-suc-le-zero}
 use lib.ListN.{length}
 use Rattle.slots.specs.declared.Header.{Header}
 use Rattle.slots.specs.Layout.{HasSlot, header, Slot, slot, nodeSlot, keyOf, valueOf}
 use Rattle.slots.proofs.Writing.{key-fits, value-fits, node-key, node-value}
-use Rattle.llrb.specs.Tree.{Entry, Tree, nil, node, entries, size}
+use Rattle.llrb.specs.Tree.{Entry, Tree, nil, node, size}
 use Rattle.llrb.proofs.Height.{size-node}
 use Rattle.store.specs.Model.{Model, slotsOf, root}
 use Rattle.store.specs.Sound.{Nodes, Represents}
 use Rattle.store.specs.Counts.{occurs}
-use Rattle.store.specs.Decode.{treeAt}
+use Rattle.store.specs.Counting.{is-other}
+use Rattle.store.specs.Decode.{treeAt, entriesBelow}
 use Rattle.store.proofs.Trees.{slots-node}
-use Rattle.store.proofs.Decoding.{live-and-free}
+use Rattle.store.proofs.Decoding.{live-and-free, decode-tree, below-nodes}
 use Rattle.store.proofs.Seats.{tree-within, top-occurs}
-use Rattle.search.specs.Search.{Each, Lies, entriesBelow, EntryAt, Stored}
+use Rattle.search.specs.Search.{Each, Lies, EntryAt, Stored}
 
 -- ---- the parts
 
@@ -68,35 +68,18 @@ module _ {s : List ℕ} {h : ℕ} {c : Bool} {e : Entry} {l r : Tree} (a : Lies 
 
 -- ---- the links lead to it
 
-open-tree : (n : ℕ) (s : List ℕ) (x : ℕ) → 1 ≤ x
-    → treeAt (suc n) s x
-    ≡ node (slot s x .red) (record { slot = x; key = keyOf (slot s x); value = valueOf (slot s x) }) (treeAt n s (slot s x .left)) (treeAt n s (slot s x .right))
-unfolding treeAt
-open-tree n s zero p = absurd (not-suc-le-zero p)
-open-tree n s (suc x) p = refl
+within-low : (s : List ℕ) (t : Tree) → Each (λ e. HasSlot (length s) (e .slot)) t → occurs 0 (slotsOf t) ≡ 0
+within-low s nil w = refl
+within-low s (node c e l r) w = omega (arith, slots-node 0 c e l r, is-other 0 (e .slot) (λ q. omega (arith, w .0 .low)), within-low s l (w .1), within-low s r (w .2))
 
-tree-nil : (n : ℕ) (s : List ℕ) → treeAt n s 0 ≡ nil
-unfolding treeAt
-tree-nil zero s = refl
-tree-nil (suc n) s = refl
-
-tree-at : (n : ℕ) (s : List ℕ) (h : ℕ) (t : Tree) → Lies s h t → size t ≤ n → treeAt n s h ≡ t
-tree-at n s h nil a p = ap (treeAt n s) (sym (a .top)) ∙ tree-nil n s
-tree-at zero s h (node c e l r) a p = absurd (omega (arith, size-node c e l r))
-tree-at (suc n) s h (node c e l r) a p =
-    let v = slot-top a in
-    let el = tree-at n s (slot s h .left) l (lies-left a refl) (omega (arith, size-node c e l r)) in
-    let er = tree-at n s (slot s h .right) r (lies-right a refl) (omega (arith, size-node c e l r)) in
-    let ec = ap (λ (z : Slot). z .red) v in
-    let ev : valueOf (slot s h) ≡ e .value = ap valueOf v ∙ node-value c (e .key) (e .value) (root l) (root r) in
-    open-tree n s h (top-in a .low) ∙ (λ i. node (ec i) (record { slot = sym (a .top) i; key = top-key a i; value = ev i }) (el i) (er i))
+tree-at : (s : List ℕ) (h : ℕ) (t : Tree) → Lies s h t → treeAt 2047 s h ≡ t
+tree-at s h t a = ap (treeAt 2047 s) (sym (a .top)) ∙ decode-tree 2047 s t (a .nodes) (within-low s t (a .within)) (a .few)
 
 pub one-tree : {s : List ℕ} {h : ℕ} (t u : Tree) → Lies s h t → Lies s h u → t ≡ u
-one-tree {s} {h} t u a b = sym (tree-at 2047 s h t a (a .few)) ∙ tree-at 2047 s h u b (b .few)
+one-tree {s} {h} t u a b = sym (tree-at s h t a) ∙ tree-at s h u b
 
 pub below-lies : (s : List ℕ) (h : ℕ) (t : Tree) → Lies s h t → entriesBelow s h ≡ size t
-unfolding entriesBelow
-below-lies s h t a = ap size (tree-at 2047 s h t a (a .few))
+below-lies s h t a = below-nodes s h t (a .top) (a .nodes) (within-low s t (a .within)) (a .few)
 
 -- ---- a sound store's tree
 

@@ -1,7 +1,7 @@
 -- The steps of each search, in the order of the code: the loop ends, stops at an entry, goes to the left or to the right.
 -- Assumes nothing.
 use mathlib.Core.Path.{_≡_, refl, sym, ap, _∙_}
-use mathlib.Core.Bool.{Bool, true, false, cond}
+use mathlib.Core.Bool.{Bool, true, false}
 use mathlib.Core.Logic.{_⊎_, inl, inr}
 use mathlib.Core.List.{List, [], _∷_}
 use mathlib.Core.Option.{Option, none, some}
@@ -12,10 +12,9 @@ use denote.Enum.Declared.{tagOf}
 use Rattle.key_order.proofs.Ordering.{the-type}
 use Rattle.key_order.specs.declared.Ordering.{Ordering}
 use Rattle.key_order.specs.declared.Ordering.the-variants.{Less, Equal, Greater}
-use Rattle.key_order.specs.Order.{Key, cmp, pick, isPrefixOf}
+use Rattle.key_order.specs.Order.{Key, cmp, isPrefixOf}
 use Rattle.slots.specs.Layout.{slot, keyOf}
 use Rattle.llrb.specs.Tree.{Entry, Tree, nil, node, get}
-use Rattle.llrb.specs.Delete.{least}
 use Rattle.llrb.specs.Iterate.{firstEntry, orEntry, nextEntry, nextLoop}
 use Rattle.llrb.proofs.Iterate.{next-loop}
 use Rattle.witness_trees.specs.Witness as bounds

@@ -12,7 +12,6 @@ use Rattle.witness_trees.specs.Witness as bounds
 use Rattle.store.specs.Numbers.{Absent, numberOf}
 use Rattle.store.specs.Model.{root}
 use Rattle.store.specs.Sound.{Nodes}
-use Rattle.store.specs.Decode.{treeAt}
 use Rattle.store.specs.Answers as answers
 use Rattle.search.specs.declared.Found.{Found}
 use Rattle.search.specs.declared.Found.the-variants as found
@@ -39,10 +38,6 @@ pub record Lies (s : List ℕ) (h : ℕ) (t : Tree) : Type 0 where
 
 abbrev pub HasTree : List ℕ → ℕ → Type 0
 HasTree s h = (t : Tree) × Lies s h t
-
--- the number that falls: the entries below slot h, found by the links
-unfoldable pub entriesBelow : List ℕ → ℕ → ℕ
-entriesBelow s h = size (treeAt 2047 s h)
 
 -- ---- answers: an entry or a bound by its slot, or nothing
 

@@ -3,16 +3,16 @@
 use mathlib.Core.Path.{_≡_, refl, sym, ap, subst, _∙_}
 use mathlib.Core.Bool.{Bool}
 use mathlib.Core.List.{List, [], _∷_}
-use Prim.Native.Nat.{ℕ, zero, suc, _+_, _*_, _/_, _%_, _^_, _≤_, _<_}
+use Prim.Native.Nat.{ℕ, zero, suc, _+_, _*_, _/_, _%_, _≤_, _<_}
 use native.Mathlib.Nat.{div-one}
 use native.Mathlib.Omega.{arith}
 use lib.Dec.{eqb}
-use lib.ListN.{length, getD, take, drop}
+use lib.ListN.{length, getD, take}
 use lib.Seq.{sets, drop-cons}
 use Rattle.slots.specs.Bits.{joined, fields, recut, octets, bit}
 use Rattle.slots.specs.declared.Header.{Header}
 use Rattle.slots.specs.declared.Head.{Head}
-use Rattle.slots.specs.Layout.{HasSlot, headAt, Room, TheHeader, HeadOf, KeyOf, ValueOf, DigestOf, place, size, part, room, headerWidths, headerValues, header, HeaderFits, Slot, headWidths, headValues, slot, keyOf, valueOf, numberAt, headOf, HeadFits}
+use Rattle.slots.specs.Layout.{HasSlot, headAt, HeadOf, place, part, room, headerWidths, headerValues, header, HeaderFits, headWidths, headValues, slot, keyOf, valueOf, numberAt, headOf, HeadFits}
 use Rattle.slots.specs.Setters.{putRoom, setHeader, setSlot, withLive, withRoot, withFree, setLive, setRoot, setFree, withHead, setRed, setLeft, setRight}
 use Rattle.slots.proofs.Lenses.{headBytes, header-fits, slot-fits, set-head-is}
 

@@ -1,19 +1,18 @@
 -- Runs of bytes written by the code: zeros, copies, padded strings; and what a sequence of them leaves of a slot.
 -- Assumes nothing.
 use mathlib.Core.Path.{_≡_, refl, sym, ap, subst, _∙_}
-use mathlib.Core.Bool.{Bool, true, false}
 use mathlib.Core.List.{List, [], _∷_, _++_, append-assoc, append-nil}
-use Prim.Native.Nat.{ℕ, zero, suc, _+_, _-_, _*_, _≤_, _<_}
+use Prim.Native.Nat.{ℕ, zero, suc, _+_, _-_, _≤_, _<_}
 use native.Mathlib.Numerals.{add-one}
 use native.Mathlib.Omega.{arith}
-use lib.ListN.{length, getD, set, take, drop, replicate, length-set, length-take, length-drop, drop-of-length-le, replicate-append-replicate}
-use lib.Seq.{sets, length-sets, sets-eq, take-take, take-suc, take-length, getD-drop}
+use lib.ListN.{length, getD, set, take, drop, length-drop, drop-of-length-le, replicate-append-replicate}
+use lib.Seq.{sets, sets-eq, take-take, take-suc, take-length, getD-drop}
 use borrow.Rule.Slice.PartMut.{midOf, postOf, putMid, post-is, mid-len}
 use Rattle.slots.specs.Bits.{recut, octets}
 use Rattle.slots.specs.declared.Head.{Head}
-use Rattle.slots.specs.Layout.{HasSlot, keyAt, valueAt, digestAt, HeadOf, KeyOf, ValueOf, DigestOf, place, part, room, Slot, headWidths, headValues, slot, digestOf, zeros, padded, nodeSlot, freeSlot, headOf, HeadFits, CopiesWithin}
+use Rattle.slots.specs.Layout.{HasSlot, keyAt, valueAt, digestAt, HeadOf, KeyOf, ValueOf, place, part, room, Slot, headWidths, headValues, slot, digestOf, zeros, padded, freeSlot, headOf, HeadFits, CopiesWithin}
 use Rattle.slots.specs.Setters.{putRoom, setSlot, setDigest, withHead, withValue, withEntryOf, setValue, moveEntry, clearSlot}
-use Rattle.slots.proofs.Rooms.{part-length, getD-out, fits, apart, room-other, room-id, length-putRoom}
+use Rattle.slots.proofs.Rooms.{part-length, getD-out, apart, room-other, room-id, length-putRoom}
 use Rattle.slots.proofs.Lenses.{headBytes, head-bytes-length, slot-fits, set-head-is}
 use Rattle.slots.proofs.Writing.{length-zeros}
 use Rattle.slots.proofs.Coding.{head-fits}

@@ -1,8 +1,7 @@
 -- Document 01's first example, computed: a fresh store of capacity 1.
 -- Assumes nothing.
 use mathlib.Core.Path.{_≡_, refl}
-use mathlib.Core.List.{List, [], _∷_, _++_}
-use Prim.Native.Nat.{ℕ}
+use mathlib.Core.List.{[], _∷_, _++_}
 use lib.ListN.{replicate}
 use Rattle.slots.specs.Bits.{joined, fields, recut}
 use Rattle.slots.specs.Layout.{headAt, keyAt, valueAt, digestAt, place, zeros, freeSlot}

@@ -3,12 +3,12 @@
 use mathlib.Core.Path.{_≡_, refl, sym, ap, subst, _∙_}
 use mathlib.Core.Bool.{Bool, true, false}
 use mathlib.Core.List.{List, [], _∷_}
-use Prim.Native.Nat.{ℕ, zero, suc, _+_, _*_, _/_, _%_, _^_, _≤_, _<_}
+use Prim.Native.Nat.{ℕ, zero, suc, _+_, _*_, _/_, _%_, _^_, _<_}
 use native.Mathlib.Nat.{mod-lt, mod-mod, mod-eq-of-lt}
 use native.Mathlib.Omega.{arith}
 use lib.Arith.{digits-lt}
-use lib.Dec.{lit<, eqb}
-use lib.ListN.{length, getD}
+use lib.Dec.{lit<}
+use lib.ListN.{length}
 use lib.Pow.{pow-add, pow-pos, high, low, field, mod-mod-pow, mod-pow-add}
 use Rattle.slots.specs.Bits.{total, joined, fields, recut, Fit, octets, Bytes, bit, flag}
 

@@ -1,7 +1,7 @@
 -- The rooms of a store: no byte lies in two, every byte lies in one; what is written into one is read back there, and the others stay.
 -- Where the rooms lie is used here alone.
 -- Assumes nothing.
-use mathlib.Core.Path.{_≡_, refl, sym, ap, subst, _∙_}
+use mathlib.Core.Path.{_≡_, refl, sym, ap, _∙_}
 use mathlib.Core.Bool.{Bool, true, false}
 use mathlib.Core.Logic.{_≢_}
 use mathlib.Core.List.{List, [], _∷_, _++_, append-assoc}
@@ -10,7 +10,7 @@ use native.Mathlib.Nat.{div-add-mod', mod-lt}
 use native.Mathlib.Omega.{arith}
 use borrow.Author.Tests.{ltb-true, ltb-false}
 use lib.Dec.{ltb, lit<}
-use lib.ListN.{length, getD, set, take, drop, length-set, length-take, length-drop}
+use lib.ListN.{length, getD, set, take, drop, length-take, length-drop}
 use lib.Seq.{sets, length-sets, sets-eq, getD-set-other, set-getD, drop-cons, getD-take, getD-drop, ext-getD, drop-at, take-at, length-take-le}
 use Rattle.slots.specs.Bits.{Bytes}
 use Rattle.slots.specs.Layout.{storeLength, HasSlot, headAt, keyAt, valueAt, digestAt, Room, TheHeader, HeadOf, KeyOf, ValueOf, DigestOf, place, size, part, room}

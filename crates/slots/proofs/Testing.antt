@@ -3,18 +3,17 @@
 use mathlib.Core.Path.{_≡_, refl, sym, ap, subst, _∙_}
 use mathlib.Core.Bool.{Bool, true, false}
 use mathlib.Core.List.{List, [], _∷_, _++_}
-use Prim.Native.Nat.{ℕ, zero, suc, _+_, _-_, _*_, _≤_, _<_}
+use Prim.Native.Nat.{ℕ, zero, suc, _+_, _-_, _≤_, _<_}
 use native.Mathlib.Numerals.{add-one}
 use native.Mathlib.Omega.{arith}
 use borrow.Author.Tests.{eqb-true, eqb-false}
 use lib.Dec.{eqb}
-use lib.ListN.{length, getD, take, drop, replicate, length-take, length-drop, take-append-drop}
+use lib.ListN.{length, getD, take, drop, length-take, length-drop, take-append-drop}
 use lib.Seq.{take-suc, take-add, drop-at, drop-drop, length-take-le, getD-drop}
 use Rattle.slots.specs.declared.Head.{Head}
-use Rattle.slots.specs.Layout.{HasSlot, keyAt, valueAt, digestAt, KeyOf, ValueOf, DigestOf, place, part, room, Slot, slot, digestOf, zeros, padded, keyOf, valueOf, nodeSlot, freeSlot, IsEntry, IsFree, headOf, Decides}
+use Rattle.slots.specs.Layout.{HasSlot, keyAt, valueAt, digestAt, place, part, room, Slot, slot, digestOf, zeros, padded, keyOf, valueOf, IsEntry, IsFree, headOf, Decides}
 use Rattle.slots.proofs.Rooms.{part-length}
 use Rattle.slots.proofs.Lenses.{slot-fits}
-use Rattle.slots.proofs.Writing.{length-zeros, padded-fits}
 
 -- ---- decisions
 

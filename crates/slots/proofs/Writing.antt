@@ -6,14 +6,14 @@ use mathlib.Core.List.{List, [], _∷_, _++_}
 use Prim.Native.Nat.{ℕ, zero, suc, _+_, _-_, _≤_, _<_}
 use native.Mathlib.Omega.{arith}
 use lib.Dec.{lit<}
-use lib.ListN.{length, getD, take, replicate, length-append, length-replicate}
+use lib.ListN.{length, take, length-append, length-replicate}
 use lib.Seq.{take-append-seam}
 use Rattle.slots.specs.Bits.{Bytes}
 use Rattle.slots.specs.declared.Header.{Header}
 use Rattle.slots.specs.Layout.{HasSlot, KeyOf, ValueOf, DigestOf, header, HeaderFits, Slot, slot, SlotFits, digestOf, zeros, padded, keyOf, valueOf, nodeSlot, freeSlot}
 use Rattle.slots.specs.Setters.{setHeader, setSlot, setDigest, withLive, withRoot, withFree, setLive, setRoot, setFree, withRed, withLeft, withRight, withValue, withEntryOf, setRed, setLeft, setRight, setValue, moveEntry, clearSlot, Keeps, Wrote, Headed}
 use Rattle.slots.proofs.Rooms.{bytes-room}
-use Rattle.slots.proofs.Lenses.{header-fits, slot-fits, digest-length, length-setHeader, bytes-setHeader, header-setHeader, slot-setHeader, digest-setHeader, length-setDigest, bytes-setDigest, digest-setDigest, digest-setDigest-other, slot-setDigest, header-setDigest, length-setSlot, bytes-setSlot, slot-setSlot, slot-setSlot-other, digest-setSlot, header-setSlot}
+use Rattle.slots.proofs.Lenses.{header-fits, slot-fits, length-setHeader, bytes-setHeader, header-setHeader, slot-setHeader, digest-setHeader, length-setDigest, bytes-setDigest, digest-setDigest, digest-setDigest-other, slot-setDigest, header-setDigest, length-setSlot, bytes-setSlot, slot-setSlot, slot-setSlot-other, digest-setSlot, header-setSlot}
 
 -- ---- padding
 

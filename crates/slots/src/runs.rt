@@ -1,6 +1,6 @@
 // Runs of bytes: numbers most significant byte first, zeros, padded strings, copies within.
 ghost use mathlib.Core.Path.{_≡_};
-ghost use Prim.Native.Nat.{ℕ, _+_, _≤_, _<_};
+ghost use Prim.Native.Nat.{_+_, _≤_, _<_};
 ghost use lib.ListN.{length};
 ghost use lib.Seq.{sets};
 ghost use Rattle.slots.specs.Bits.{octets, fields};

@@ -15,7 +15,7 @@ use Rattle.store.specs.Counts.{occurs, numbersTo}
 use Rattle.store.specs.Counting.{is-self, occurs-append, numbers-low, same-length, numbers-length}
 use Rattle.store.specs.Model.{Model, slotsOf, root, head}
 use Rattle.store.specs.Sound.{Nodes, Chain, Lawful, Represents, Sound}
-use Rattle.store.specs.Decode.{treeAt, chainAt, decode}
+use Rattle.store.specs.Decode.{treeAt, entriesBelow, chainAt, decode}
 use Rattle.store.specs.Deciding.{told}
 use Rattle.store.specs.Decide.{represents?, held, onSound}
 use Rattle.store.proofs.Trees.{slots-node, size-slots}
@@ -65,7 +65,8 @@ unfolding chainAt
 chain-nil zero s = refl
 chain-nil (suc n) s = refl
 
-decode-tree : (n : ℕ) (s : List ℕ) (t : Tree) → Nodes s t → occurs 0 (slotsOf t) ≡ 0 → size t ≤ n → treeAt n s (root t) ≡ t
+-- the links lead to the tree
+pub decode-tree : (n : ℕ) (s : List ℕ) (t : Tree) → Nodes s t → occurs 0 (slotsOf t) ≡ 0 → size t ≤ n → treeAt n s (root t) ≡ t
 decode-tree n s nil a z p = tree-nil n s
 decode-tree zero s (node c e l r) a z p = absurd (omega (arith, size-node c e l r))
 decode-tree (suc n) s (node c e l r) a z p =
@@ -78,6 +79,10 @@ decode-tree (suc n) s (node c e l r) a z p =
     let ek : keyOf (slot s (e .slot)) ≡ e .key = ap (λ (v : Slot). keyOf v) h ∙ node-key c (e .key) (e .value) (root l) (root r) in
     let ev : valueOf (slot s (e .slot)) ≡ e .value = ap (λ (v : Slot). valueOf v) h ∙ node-value c (e .key) (e .value) (root l) (root r) in
     open-tree n s (e .slot) low ∙ (λ i. node (ec i) (record { slot = e .slot; key = ek i; value = ev i }) (el i) (er i))
+
+pub below-nodes : (s : List ℕ) (h : ℕ) (t : Tree) → root t ≡ h → Nodes s t → occurs 0 (slotsOf t) ≡ 0 → size t ≤ 2047 → entriesBelow s h ≡ size t
+unfolding entriesBelow
+below-nodes s h t e a z p = ap (λ (x : ℕ). size (treeAt 2047 s x)) (sym e) ∙ ap size (decode-tree 2047 s t a z p)
 
 decode-chain : (n : ℕ) (s : List ℕ) (f : List ℕ) → Chain s f → occurs 0 f ≡ 0 → length f ≤ n → chainAt n s (head f) ≡ f
 decode-chain n s [] a z p = chain-nil n s

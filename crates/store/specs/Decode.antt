@@ -4,7 +4,7 @@
 use mathlib.Core.List.{List, [], _∷_}
 use Prim.Native.Nat.{ℕ, zero, suc}
 use Rattle.slots.specs.Layout.{header, slot, keyOf, valueOf}
-use Rattle.llrb.specs.Tree.{Tree, nil, node}
+use Rattle.llrb.specs.Tree.{Tree, nil, node, size}
 use Rattle.store.specs.Model.{Model}
 
 unfoldable pub treeAt : (fuel : ℕ) → List ℕ → ℕ → Tree
@@ -13,6 +13,10 @@ treeAt (suc n) s zero = nil
 treeAt (suc n) s (suc x) =
     node (slot s (suc x) .red) (record { slot = suc x; key = keyOf (slot s (suc x)); value = valueOf (slot s (suc x)) })
     (treeAt n s (slot s (suc x) .left)) (treeAt n s (slot s (suc x) .right))
+
+-- how many entries lie below slot h, by the links: what falls as the code goes down. A store has fewer than 2,048 slots.
+unfoldable pub entriesBelow : List ℕ → ℕ → ℕ
+entriesBelow s h = size (treeAt 2047 s h)
 
 unfoldable pub chainAt : (fuel : ℕ) → List ℕ → ℕ → List ℕ
 chainAt zero s x = []

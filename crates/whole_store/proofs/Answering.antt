@@ -3,7 +3,7 @@
 use mathlib.Core.Path.{_≡_, refl, sym, ap, subst, _∙_}
 use mathlib.Core.Bool.{Bool, true, false, not, _||_}
 use mathlib.Core.List.{List, [], _∷_, _++_, append-nil}
-use Prim.Native.Nat.{ℕ, zero, suc, _+_, _*_, _≤_, _<_}
+use Prim.Native.Nat.{ℕ, _+_, _≤_, _<_}
 use native.Mathlib.Omega.{arith}
 use lib.Dec.{eqb, ltb}
 use lib.ListN.{length, take, drop, replicate}
@@ -14,7 +14,7 @@ use Rattle.slots.specs.declared.Header.{Header}
 use Rattle.slots.specs.Layout.{storeLength, header, digestOf, zeros}
 use Rattle.llrb.specs.Tree.{Tree, nil, node, size}
 use Rattle.llrb.specs.Digests.{subtreeDigest}
-use Rattle.store.specs.Numbers.{Refusal, NotSound, BadCapacity, Outcome, refused, done}
+use Rattle.store.specs.Numbers.{NotSound, BadCapacity, refused, done}
 use Rattle.store.specs.Model.{Model, root, fresh}
 use Rattle.store.specs.Sound.{Digests, Sound}
 use Rattle.store.specs.Encode.{encode}

@@ -1,10 +1,10 @@
 -- The bytes that `create` writes are those of a fresh model.
 -- Assumes nothing.
-use mathlib.Core.Path.{_≡_, refl, sym, ap, subst, _∙_}
-use mathlib.Core.Bool.{Bool, true, false, cond}
+use mathlib.Core.Path.{_≡_, refl, sym, ap, _∙_}
+use mathlib.Core.Bool.{Bool, true, false}
 use mathlib.Core.Logic.{_≢_}
-use mathlib.Core.List.{List, [], _∷_}
-use Prim.Native.Nat.{ℕ, zero, suc, _+_, _*_, _≤_, _<_}
+use mathlib.Core.List.{List}
+use Prim.Native.Nat.{ℕ, zero, suc, _+_, _≤_, _<_}
 use native.Mathlib.Omega.{arith}
 use lib.Dec.{eqb, lit<}
 use lib.ListN.{length, getD, set, length-set, getD-replicate}
@@ -12,16 +12,16 @@ use lib.Seq.{getD-set-same, getD-set-other, ext-getD}
 use borrow.Author.Tests.{eqb-true, eqb-false, eq-eqb, ne-eqb}
 use Rattle.slots.specs.declared.Header.{Header}
 use Rattle.slots.specs.Bits.{Bytes}
-use Rattle.slots.specs.Layout.{storeLength, HasSlot, HeaderFits, Slot, slot, SlotFits, freeSlot, zeros}
+use Rattle.slots.specs.Layout.{storeLength, HasSlot, HeaderFits, SlotFits, freeSlot, zeros}
 use Rattle.slots.specs.Layout as layout
-use Rattle.slots.specs.Setters.{setHeader, setSlot, setDigest, clearSlot, withSlots, bytesOf}
+use Rattle.slots.specs.Setters.{setHeader, setSlot, clearSlot, withSlots, bytesOf}
 use Rattle.slots.proofs.Lenses.{length-setDigest, length-setSlot}
 use Rattle.slots.proofs.Writing.{length-zeros, bytes-zeros, free-fits}
 use Rattle.slots.proofs.Whole.{length-bytesOf, bytes-bytesOf, header-bytesOf, slot-bytesOf, digest-bytesOf}
-use Rattle.llrb.specs.Tree.{nil, size}
+use Rattle.llrb.specs.Tree.{size}
 use Rattle.store.specs.Counts.{numbersFrom, numbersTo}
-use Rattle.store.specs.Model.{Model, head, fresh}
-use Rattle.store.specs.Sound.{headerOf, Chain, Laid, Represents}
+use Rattle.store.specs.Model.{head, fresh}
+use Rattle.store.specs.Sound.{Chain, Laid}
 use Rattle.store.specs.Encode.{encode}
 use Rattle.store.proofs.Operating.{fresh-lawful}
 use Rattle.store.proofs.Encoding.{encoded}

@@ -1,8 +1,8 @@
 -- A fresh store slot by slot: what `create` writes.
 -- Assumes nothing: these are definitions.
-use mathlib.Core.Bool.{Bool, true, false, cond}
+use mathlib.Core.Bool.{cond}
 use mathlib.Core.List.{List}
-use Prim.Native.Nat.{ℕ, suc, _+_}
+use Prim.Native.Nat.{ℕ, _+_}
 use lib.Dec.{eqb}
 use Rattle.slots.specs.Layout.{Slot, freeSlot, zeros}
 use Rattle.slots.specs.Setters.{withSlots}

@@ -3,7 +3,7 @@ use hash_tree::empty_hash;
 use judge::judge;
 use slots::Header;
 ghost use mathlib.Core.Path.{_≡_};
-ghost use Prim.Native.Nat.{ℕ, _≤_};
+ghost use Prim.Native.Nat.{_≤_};
 ghost use lib.ListN.{length};
 ghost use Rattle.slots.specs.Layout.{HasSlot, digestOf, zeros};
 ghost use Rattle.store.specs.Model.{fresh};

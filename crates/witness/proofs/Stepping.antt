@@ -11,7 +11,8 @@ use Rattle.key_order.specs.Order.{Key, cmp}
 use Rattle.hash_tree.specs.Written.{piece, write}
 use Rattle.slots.specs.Layout.{slot}
 use Rattle.llrb.specs.Tree.{Tree, nil, node, left, right}
-use Rattle.search.specs.Search.{EntryAt, entriesBelow}
+use Rattle.store.specs.Decode.{entriesBelow}
+use Rattle.search.specs.Search.{EntryAt}
 use Rattle.search.proofs.Lying.{top-entry, top-in, lies-left, lies-right, below-lies}
 use Rattle.llrb.proofs.Height.{size-node}
 use Rattle.witness_walks.specs.declared.Walk.{Walk}

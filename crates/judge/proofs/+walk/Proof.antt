@@ -1,12 +1,12 @@
-use mathlib.Core.Path.{_≡_, refl, sym, ap, subst, _∙_}
+use mathlib.Core.Path.{sym, ap, subst}
 use Prim.Native.Nat.{_-_}
 use native.Mathlib.Omega.{arith}
 use borrow.Author.Needs.{needs}
 use Rattle.slots.specs.declared.Head.{Head}
-use Rattle.judge.specs.Steps.{WalkSays, NodeOk}
+use Rattle.judge.specs.Steps.{WalkSays}
 use Rattle.judge.proofs.Deciding.{decides-no, decides-yes}
 use Rattle.judge.proofs.Testing.{has-slot, entry-key, key-length-of}
-use Rattle.judge.proofs.Walking.{Here, seen-nil, deep-none, few-none, high-none, node-none, left-none, rise-none, join-says}
+use Rattle.judge.proofs.Walking.{seen-nil, deep-none, few-none, high-none, node-none, left-none, rise-none, join-says}
 use Prim.Native.Nat.{ℕ, _<_}
 use borrow.Fn.Kinds.{In}
 use borrow.Fn.PlainCycle.{Measures, is, falls, and}

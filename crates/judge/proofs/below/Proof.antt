@@ -1,4 +1,4 @@
-use mathlib.Core.Path.{_≡_, sym, _∙_}
+use mathlib.Core.Path.{sym, _∙_}
 use Rattle.judge.proofs.Testing.{equal-not, greater-not}
 use borrow.Author.Needs.{needs}
 use Rattle.judge.proofs.below.Statement.{statement}

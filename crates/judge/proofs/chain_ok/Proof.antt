@@ -1,7 +1,6 @@
-use mathlib.Core.Bool.{Bool, true, false}
 use native.Mathlib.Omega.{arith}
 use lib.Dec.{eqb}
-use Rattle.judge.specs.Steps.{Along, HasChain}
+use Rattle.judge.specs.Steps.{Along}
 use Rattle.judge.proofs.Deciding.{decides-no, decides-yes, decides-via}
 use Rattle.judge.proofs.Testing.{has-slot}
 use Rattle.judge.proofs.Chaining.{along-start, along-next, no-more, is-free, ends}

@@ -1,4 +1,4 @@
-use mathlib.Core.Path.{_≡_, sym, _∙_}
+use mathlib.Core.Path.{sym, _∙_}
 use native.Mathlib.Omega.{arith}
 use Rattle.judge.proofs.Deciding.{decides-no, decides-yes, decides-via}
 use Rattle.judge.proofs.Testing.{colour-of, left-within, right-within, short-head, node-made}

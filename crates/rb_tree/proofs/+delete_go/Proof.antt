@@ -1,6 +1,6 @@
 use borrow.Author.Needs.{needs}
 use mathlib.Core.Path.{_∙_}
-use Rattle.rb_nodes.specs.Heap.{entriesBelow}
+use Rattle.store.specs.Decode.{entriesBelow}
 use Rattle.rb_tree.proofs.Comparing.{not-less, not-equal}
 use Rattle.rb_tree.proofs.Inverse.{go-full}
 use Rattle.rb_tree.proofs.Going.{go-left-way, go-right-way, l-in, l-call, l-link, l-can, l-done, r-in, r-gone, r-can-ready, r-tree, r-here, r-next, r-pulled, r-call, r-link, r-can, r-done}

@@ -1,6 +1,6 @@
 use borrow.Author.Needs.{needs}
 use mathlib.Core.Path.{_∙_}
-use Rattle.rb_nodes.specs.Heap.{entriesBelow}
+use Rattle.store.specs.Decode.{entriesBelow}
 use Rattle.rb_nodes.proofs.Heap.{full-in, full-some}
 use Rattle.rb_tree.proofs.Inserting.{new-slot, new-links, new-done, less-call, less-link, less-can, less-done, greater-call, greater-link, greater-can, greater-done, equal-can, equal-done}
 use Prim.Native.Nat.{ℕ, _<_}

@@ -1,6 +1,6 @@
 use borrow.Author.Needs.{needs}
 use mathlib.Core.Path.{_∙_}
-use Rattle.rb_nodes.specs.Heap.{entriesBelow}
+use Rattle.store.specs.Decode.{entriesBelow}
 use Rattle.rb_nodes.proofs.Heap.{full-in, full-some}
 use Rattle.rb_tree.proofs.Modifying.{modify-none, less-go, less-links, less-made, greater-go, greater-links, greater-made, equal-links, equal-made}
 use Prim.Native.Nat.{ℕ, _<_}

@@ -1,4 +1,4 @@
-use Rattle.search.specs.Search.{entriesBelow}
+use Rattle.store.specs.Decode.{entriesBelow}
 use Rattle.search.proofs.Descent.{start, here-in, less-left}
 use Rattle.search.proofs.Searches.{AtFirst, first-ends, first-left}
 use Rattle.search.proofs.first_entry.Statement.{statement}

@@ -1,5 +1,5 @@
 use borrow.Author.Needs.{needs}
-use Rattle.search.specs.Search.{entriesBelow}
+use Rattle.store.specs.Decode.{entriesBelow}
 use Rattle.search.proofs.Descent.{start, here-in, less-left, less-right}
 use Rattle.search.proofs.Searches.{AtLow, low-ends, low-stops, low-left, low-right}
 use Rattle.search.proofs.lower_bound.Statement.{statement}

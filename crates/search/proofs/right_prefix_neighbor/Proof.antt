@@ -1,5 +1,5 @@
 use borrow.Author.Needs.{needs}
-use Rattle.search.specs.Search.{entriesBelow}
+use Rattle.store.specs.Decode.{entriesBelow}
 use Rattle.search.proofs.Descent.{start, here-in, less-left, less-right}
 use Rattle.search.proofs.Searches.{AtPast, past-ends, past-upto, less-or-equal, past-left, past-right}
 use Rattle.search.proofs.right_prefix_neighbor.Statement.{statement}

@@ -1,4 +1,4 @@
-use Rattle.slots.specs.Layout.{headAt, keyAt, valueAt, digestAt}
+use Rattle.slots.specs.Layout.{headAt}
 use borrow.Author.Needs.{needs}
 use Rattle.slots.proofs.head_at.Statement.{statement}
 use Rattle.slots.proofs.head_at.Tie as tie

@@ -1,4 +1,4 @@
-use Rattle.slots.specs.Layout.{headAt, keyAt, valueAt, digestAt}
+use Rattle.slots.specs.Layout.{headAt, keyAt}
 use borrow.Author.Needs.{needs}
 use Rattle.slots.proofs.key_at.Statement.{statement}
 use Rattle.slots.proofs.key_at.Tie as tie

@@ -1,5 +1,4 @@
 use Rattle.slots.proofs.Copying.{key-apart, value-apart, entry-head-fits, entry-moved}
-use native.Mathlib.Omega.{arith}
 use borrow.Author.Needs.{needs}
 use borrow.Author.Needs.{needs}
 use Rattle.slots.proofs.move_entry.Statement.{statement}

@@ -1,5 +1,4 @@
 use Rattle.slots.proofs.Copying.{copied-32, digest-set}
-use native.Mathlib.Omega.{arith}
 use borrow.Author.Needs.{needs}
 use Rattle.slots.proofs.set_digest.Statement.{statement}
 use Rattle.slots.proofs.set_digest.Tie as tie

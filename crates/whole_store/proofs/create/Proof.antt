@@ -1,4 +1,4 @@
-use mathlib.Core.Path.{_≡_, ap, _∙_}
+use mathlib.Core.Path.{ap, _∙_}
 use Rattle.whole_store.specs.Answers.{changedOf}
 use Rattle.whole_store.proofs.Answering.{none-asked, many-asked, other-length, created}
 use borrow.Author.Needs.{needs}

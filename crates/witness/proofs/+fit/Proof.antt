@@ -5,7 +5,7 @@ use borrow.Author.Needs.{needs}
 use borrow.Author.Tests.{eqb-false}
 use Rattle.hash_tree.specs.ParseLaws.{length-piece}
 use Rattle.llrb.specs.Tree.{left, right}
-use Rattle.search.specs.Search.{entriesBelow}
+use Rattle.store.specs.Decode.{entriesBelow}
 use Rattle.witness.proofs.Lengths.{hidden-length}
 use Rattle.witness.proofs.Putting.{room-zero}
 use Rattle.witness.proofs.Stepping.{parts-in, nil-bytes, hidden-bytes, nothing-at, hidden-at, left-lies, right-lies, less-left, less-right, node-entry, falls-to, fit-node}

@@ -3,7 +3,7 @@ use native.Mathlib.Omega.{arith}
 use borrow.Author.Needs.{needs}
 use Rattle.hash_tree.specs.ParseLaws.{length-piece}
 use Rattle.llrb.specs.Tree.{left, right}
-use Rattle.search.specs.Search.{entriesBelow}
+use Rattle.store.specs.Decode.{entriesBelow}
 use Rattle.witness.proofs.Putting.{puts-none, puts-empty}
 use Rattle.witness.proofs.Stepping.{parts-in, nil-bytes, hidden-bytes, nothing-at, hidden-at, left-lies, right-lies, less-left, less-right, node-entry, node-middle, falls-to, write-node, room₁, room₂, room₃, room₄, room₅}
 use Prim.Native.Nat.{ℕ, _<_}

@@ -1,5 +1,5 @@
-use Prim.Native.Nat.{_≤_, _-_, _+_, _*_}
-use mathlib.Core.Path.{_≡_, refl, sym, ap, _∙_}
+use Prim.Native.Nat.{_≤_, _-_, _*_}
+use mathlib.Core.Path.{_≡_, refl}
 use native.Mathlib.Omega.{arith}
 use Rattle.slots.specs.Layout.{part}
 use Rattle.slots.proofs.Testing.{sumOf, sum-next, zero-test}

@@ -1,5 +1,4 @@
 use Rattle.slots.proofs.Copying.{copied-into, padded-set}
-use native.Mathlib.Omega.{arith}
 use borrow.Author.Needs.{needs}
 use Rattle.slots.proofs.runs.put_padded.Statement.{statement}
 use Rattle.slots.proofs.runs.put_padded.Tie as tie
