@@ -1,7 +1,7 @@
 -- Q-6 in advance: where a walk arrives, neither the rule of three Pruned nor the last arm of witness_range_between is ever taken.
 -- Assumes nothing.
 use Prim.Native.Nat.{ℕ}
-use mathlib.Core.Path.{_≡_, refl, sym, _∙_}
+use mathlib.Core.Path.{_≡_, refl}
 use mathlib.Core.Logic.{_⊎_, inl, inr}
 use mathlib.Core.Bool.{Bool, true, false, cond, _&&_}
 use native.Mathlib.Omega.{arith}
@@ -16,7 +16,7 @@ use Rattle.witness_walks.specs.declared.Part.the-variants.{Nothing, Hidd
 use Rattle.witness_walks.specs.declared.Arm.{Arm}
 use Rattle.witness_walks.specs.declared.Arm.the-variants.{Fork, Pruned}
 use Rattle.witness_walks.specs.declared.Shape.the-variants.{M, ForkLM, ForkMR, PrunedLMR, ForkLPrunedMR, ForkLForkMR}
-use Rattle.witness_walks.specs.declared.Middle.the-variants.{Entry, Both, Whole}
+use Rattle.witness_walks.specs.declared.Middle.the-variants.{Whole}
 use Rattle.witness_walks.specs.Arms.{armsAt}
 use Rattle.witness_walks.specs.Records.{isEmpty, isPruned, kindOfPart, kindOfWhat, recordsOf, recordsAt}
 use Rattle.witness_walks.specs.Walked.{showing}

@@ -7,11 +7,11 @@ use Rattle.witness_walks.proofs.records_at.Lts as lts
 use Rattle.slots.proofs.left.Reads as left-reads
 use Rattle.slots.proofs.right.Reads as right-reads
 use Rattle.witness_walks.proofs.arm_at.Reads as arm-at-reads
-use Rattle.witness_walks.proofs.kind_of_part.Reads as kind-of-part-reads
-use Rattle.witness_walks.proofs.kind_of_what.Reads as kind-of-what-reads
-use Rattle.witness_walks.proofs.records_of.Reads as records-of-reads
-use Rattle.witness_walks.proofs.three_way_fork.Reads as three-way-fork-reads
-use Rattle.witness_walks.proofs.whole.Reads as whole-reads
+use Rattle.witness_walks.proofs.fork.kind_of_part.Reads as kind-of-part-reads
+use Rattle.witness_walks.proofs.fork.kind_of_what.Reads as kind-of-what-reads
+use Rattle.witness_walks.proofs.fork.records_of.Reads as records-of-reads
+use Rattle.witness_walks.proofs.fork.three_way_fork.Reads as three-way-fork-reads
+use Rattle.witness_walks.proofs.fork.whole.Reads as whole-reads
 
 -- src/lib.rt:536:9
 arm-at-requires : tie.Need-arm-at-requires

@@ -1,9 +1,9 @@
 use borrow.Author.Tests.{ne-eqb}
 use borrow.Author.Needs.{needs}
-use Rattle.witness_walks.proofs.kind_of_part.Statement.{statement}
-use Rattle.witness_walks.proofs.kind_of_part.Tie as tie
-use Rattle.witness_walks.proofs.kind_of_part.Reads as reads
-use Rattle.witness_walks.proofs.kind_of_part.Lts as lts
+use Rattle.witness_walks.proofs.fork.kind_of_part.Statement.{statement}
+use Rattle.witness_walks.proofs.fork.kind_of_part.Tie as tie
+use Rattle.witness_walks.proofs.fork.kind_of_part.Reads as reads
+use Rattle.witness_walks.proofs.fork.kind_of_part.Lts as lts
 
 -- src/lib.rt:160:9
 returns : tie.Need-returns

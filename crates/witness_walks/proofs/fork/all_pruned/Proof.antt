@@ -1,11 +1,11 @@
 use mathlib.Core.Path.{sym, _∙_}
 use borrow.Author.Needs.{needs}
-use Rattle.witness_walks.proofs.all_pruned.Statement.{statement}
-use Rattle.witness_walks.proofs.all_pruned.Tie as tie
-use Rattle.witness_walks.proofs.all_pruned.Reads as reads
-use Rattle.witness_walks.proofs.all_pruned.Lts as lts
-use Rattle.witness_walks.proofs.both_pruned.Reads as both-pruned-reads
-use Rattle.witness_walks.proofs.is_pruned.Reads as is-pruned-reads
+use Rattle.witness_walks.proofs.fork.all_pruned.Statement.{statement}
+use Rattle.witness_walks.proofs.fork.all_pruned.Tie as tie
+use Rattle.witness_walks.proofs.fork.all_pruned.Reads as reads
+use Rattle.witness_walks.proofs.fork.all_pruned.Lts as lts
+use Rattle.witness_walks.proofs.fork.both_pruned.Reads as both-pruned-reads
+use Rattle.witness_walks.proofs.fork.is_pruned.Reads as is-pruned-reads
 
 -- src/lib.rt:131:5
 is-pruned-requires : tie.Need-is-pruned-requires

@@ -1,9 +1,9 @@
 use borrow.Author.Needs.{needs}
-use Rattle.witness_walks.proofs.records_of.Statement.{statement}
-use Rattle.witness_walks.proofs.records_of.Tie as tie
-use Rattle.witness_walks.proofs.records_of.Reads as reads
-use Rattle.witness_walks.proofs.records_of.Lts as lts
-use Rattle.witness_walks.proofs.whole.Reads as whole-reads
+use Rattle.witness_walks.proofs.fork.records_of.Statement.{statement}
+use Rattle.witness_walks.proofs.fork.records_of.Tie as tie
+use Rattle.witness_walks.proofs.fork.records_of.Reads as reads
+use Rattle.witness_walks.proofs.fork.records_of.Lts as lts
+use Rattle.witness_walks.proofs.fork.whole.Reads as whole-reads
 
 -- src/lib.rt:186:19
 enum-told : tie.Need-enum-told

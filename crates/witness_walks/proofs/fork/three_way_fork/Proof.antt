@@ -1,13 +1,13 @@
 use mathlib.Core.Path.{sym, _∙_}
 use borrow.Author.Needs.{needs}
-use Rattle.witness_walks.proofs.three_way_fork.Statement.{statement}
-use Rattle.witness_walks.proofs.three_way_fork.Tie as tie
-use Rattle.witness_walks.proofs.three_way_fork.Reads as reads
-use Rattle.witness_walks.proofs.three_way_fork.Lts as lts
-use Rattle.witness_walks.proofs.all_pruned.Reads as all-pruned-reads
-use Rattle.witness_walks.proofs.both_empty.Reads as both-empty-reads
-use Rattle.witness_walks.proofs.both_pruned.Reads as both-pruned-reads
-use Rattle.witness_walks.proofs.is_empty.Reads as is-empty-reads
+use Rattle.witness_walks.proofs.fork.three_way_fork.Statement.{statement}
+use Rattle.witness_walks.proofs.fork.three_way_fork.Tie as tie
+use Rattle.witness_walks.proofs.fork.three_way_fork.Reads as reads
+use Rattle.witness_walks.proofs.fork.three_way_fork.Lts as lts
+use Rattle.witness_walks.proofs.fork.all_pruned.Reads as all-pruned-reads
+use Rattle.witness_walks.proofs.fork.both_empty.Reads as both-empty-reads
+use Rattle.witness_walks.proofs.fork.both_pruned.Reads as both-pruned-reads
+use Rattle.witness_walks.proofs.fork.is_empty.Reads as is-empty-reads
 
 -- src/lib.rt:137:8
 both-empty-requires : tie.Need-both-empty-requires
