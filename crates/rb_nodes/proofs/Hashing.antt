@@ -2,12 +2,11 @@
 -- Assumes nothing.
 use mathlib.Core.Path.{_≡_, refl, sym, ap, subst, _∙_}
 use mathlib.Core.Bool.{Bool, true, false}
-use mathlib.Core.List.{List, [], _∷_, _++_}
+use mathlib.Core.List.{List}
 use Prim.Native.Nat.{ℕ, zero, suc, _≤_}
 use native.Mathlib.Omega.{arith}
 use lib.ListN.{length}
-use Rattle.sha256.specs.Words.{bytesOf}
-use Rattle.sha256.specs.Hash.{sha256, digest}
+use Rattle.sha256.proofs.Length.{sha256-bytes}
 use Rattle.hash_tree.specs.HashTree.{Digest, forkHash, labeledHash, leafHash}
 use Rattle.hash_tree.specs.DigestLaws.{forkHash-length, labeledHash-length}
 use Rattle.slots.specs.Bits.{Bytes}
@@ -22,25 +21,6 @@ use Rattle.rb_nodes.specs.Heap.{Held, isNone, computeSubtreeHash, update
 use Rattle.rb_nodes.proofs.Heap.{slot-top, top-in, top-key, top-value, held-left, held-right}
 
 -- ---- a digest is 32 bytes
-
-word-bytes : (w : ℕ) → Bytes (bytesOf w)
-unfolding bytesOf
-word-bytes w zero = omega arith
-word-bytes w (suc zero) = omega arith
-word-bytes w (suc (suc zero)) = omega arith
-word-bytes w (suc (suc (suc zero))) = omega arith
-word-bytes w (suc (suc (suc (suc i)))) = omega arith
-
-both-bytes : (a b : List ℕ) → Bytes a → Bytes b → Bytes (a ++ b)
-both-bytes [] b p q i = q i
-both-bytes (x ∷ a) b p q zero = p 0
-both-bytes (x ∷ a) b p q (suc i) = both-bytes a b (λ j. p (suc j)) q i
-
-sha256-bytes : (m : List ℕ) → Bytes (sha256 m)
-unfolding sha256 digest
-sha256-bytes m =
-    let h : (w : ℕ) (l : List ℕ) → Bytes l → Bytes (bytesOf w ++ l) = λ w l. both-bytes (bytesOf w) l (word-bytes w) in
-    h _ _ (h _ _ (h _ _ (h _ _ (h _ _ (h _ _ (h _ _ (word-bytes _)))))))
 
 fork-bytes : (a b : Digest) → Bytes (forkHash a b)
 unfolding forkHash

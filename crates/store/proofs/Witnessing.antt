@@ -6,16 +6,14 @@ use Prim.Native.Nat.{ℕ, _≤_, _<_}
 use native.Mathlib.Omega.{arith}
 use lib.ListN.{length, take, drop}
 use borrow.Author.Tests.{le-ltb, lt-ltb}
-use Rattle.hash_tree.specs.HashTree.{HashTree, Empty, Fork, Labeled, Leaf, Pruned}
-use Rattle.hash_tree.specs.Written as written
-use Rattle.hash_tree.specs.Written.{write, Lengths}
+use Rattle.hash_tree.specs.HashTree.{HashTree}
+use Rattle.hash_tree.specs.Written.{write, depth, Lengths}
 use Rattle.hash_tree.specs.Whole as whole
 use Rattle.hash_tree.specs.Promises.{accepts}
 use Rattle.hash_tree.specs.DigestLaws.{forkHash-length, labeledHash-length, leafHash-length}
 use Rattle.llrb.specs.Tree.{Entry, Tree, nil, node, entries, size}
 use Rattle.llrb.specs.Digests.{rootHash}
 use Rattle.llrb.proofs.Height.{height-20}
-use Rattle.witness_trees.specs.Reading.{depth}
 use Rattle.witness_trees.specs.Shown.{What, Hide, Label, Show, item, shown}
 use Rattle.witness_trees.proofs.Shown.{join-cases, node-cases, shown-nil, depth-shown, digest-shown}
 use Rattle.witness_trees.specs.Witness.{keysOnly, values}
@@ -49,18 +47,11 @@ shown-lengths f (node c e l r) a =
     (λ h. join-cases Lengths (shown f l) (item (f e) e) (shown f r)
     (λ x y. k) (λ x y. (p, k)) (λ x y. (k, q)) (λ x y u. forkHash-length _ _) (λ x y u. (p, forkHash-length _ _)) (λ x y u. (p, (k, q))))
 
-same-depth : (u : HashTree) → written.depth u ≡ depth u
-same-depth Empty = refl
-same-depth (Fork l r) = rw (same-depth l, same-depth r)
-same-depth (Labeled k t) = rw (same-depth t)
-same-depth (Leaf v) = refl
-same-depth (Pruned d) = refl
-
 -- so it rebuilds to the root digest
 pub shown-rebuilds : (f : Entry → What) {m : Model} → Lawful m → whole.rebuilt (write (shown f (m .tree))) ≡ whole.accepted (rootHash (m .tree))
 shown-rebuilds f {m} g =
     let few : size (m .tree) ≤ 1024 = omega (arith, live-and-free g, g .most) in
-    let low : written.depth (shown f (m .tree)) ≤ 64 = omega (arith, same-depth (shown f (m .tree)), depth-shown f (m .tree), height-20 (tree-lawful g) few) in
+    let low : depth (shown f (m .tree)) ≤ 64 = omega (arith, depth-shown f (m .tree), height-20 (tree-lawful g) few) in
     accepts (shown f (m .tree)) (shown-lengths f (m .tree) (g .short), low) ∙ ap whole.accepted (digest-shown f (m .tree))
 
 pub witnesses-rebuild : {m : Model} → Lawful m → WitnessesRebuild (m .tree)
