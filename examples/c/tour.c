@@ -162,7 +162,8 @@ static void refusals(void) {
   answers(0, dampcandle_insert(store, LENGTH, long_key, 48, long_value, 64), "insert, key of 48 bytes, value of 64");
   keep();
   refused(5, dampcandle_insert(store, LENGTH, BYTES("uart.fifo"), BYTES("")), "insert, no slot free");
-  answers(0, dampcandle_modify(store, LENGTH, long_key, 48, BYTES("")), "modify, the store full");
+  answers(0, dampcandle_insert(store, LENGTH, long_key, 48, BYTES("new")), "insert of a present key, no slot free");
+  answers(0, dampcandle_modify(store, LENGTH, long_key, 48, BYTES("")), "modify, no slot free");
   answers(0, dampcandle_delete(store, LENGTH, long_key, 48), "delete");
   answers(0, dampcandle_insert(store, LENGTH, BYTES(""), BYTES("")), "insert of the empty key");
 
@@ -197,6 +198,14 @@ static void known(void) {
   expect(!memcmp(digest, abc, 32), "FIPS 180-4");
 }
 
+static void capacities(void) {
+  static uint8_t large[DAMPCANDLE_STORE_LENGTH(1025)];
+  answers(8, dampcandle_create(large, DAMPCANDLE_STORE_LENGTH(0), 0), "create, capacity 0");
+  answers(8, dampcandle_create(large, DAMPCANDLE_STORE_LENGTH(1025), 1025), "create, capacity 1,025");
+  for (size_t i = 0; i < sizeof large; i++) expect(large[i] == 0, "a refusal changed the bytes");
+  answers(0, dampcandle_create(large, DAMPCANDLE_STORE_LENGTH(1024), 1024), "create, capacity 1,024");
+}
+
 int main(void) {
   fill();
   read_one();
@@ -204,6 +213,7 @@ int main(void) {
   witnesses();
   refusals();
   known();
+  capacities();
   puts("as expected");
   return 0;
 }
