@@ -37,7 +37,8 @@ promised() {
     NF == 6 && $5 !~ /^(file|---)$/ { printf "%d\t%s\t%s\n", NR, ticked($4), ticked($5) }' docs/PROMISES.md
 }
 
-# In ARCHITECTURE a row names crates and files without their ends (store/proofs/Table, of specs/Table); an empty cell means the row above, and "also" adds to it.
+# In ARCHITECTURE a row names crates and files without their ends (store/proofs/Table, of specs/Table); an empty cell means the row
+# above, and "also" adds to it. A name may stand anywhere in those crates.
 designed() {
   awk -F ' *[|] *' 'function crates(cell,   out) {
       out = ""
