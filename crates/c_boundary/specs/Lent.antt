@@ -1,0 +1,59 @@
+-- What a C caller sees of a call: its number, and what it leaves in the things it was lent for its answer. With number 0 these hold
+-- the answer; with any other each is as it was.
+-- Assumes nothing: these are definitions.
+use mathlib.Core.Bool.{Bool, cond}
+use mathlib.Core.List.{List}
+use Prim.Native.Nat.{ℕ}
+use lib.Dec.{eqb}
+use Rattle.sha256.specs.declared.Hashed.{Hashed}
+use Rattle.hash_tree.specs.declared.Rebuilt.{Rebuilt}
+use Rattle.store.specs.Answers as answers
+
+-- a lent thing at the end of a call
+abbrev pub lent : {A : Type 0} → (number : ℕ) → (answer before : A) → A
+lent number answer before = cond (eqb number 0) answer before
+
+-- ---- what a call left: its number, and the final values of what it was lent
+
+abbrev pub toldIs : (number : ℕ) → Bool → answers.Told
+toldIs n b = record { number = n; yes = b }
+
+abbrev pub countedIs : (number count : ℕ) → answers.Counted
+countedIs n count = record { number = n; count = count }
+
+abbrev pub digestedIs : (number : ℕ) → List ℕ → answers.Digested
+digestedIs n digest = record { number = n; digest = digest }
+
+abbrev pub foundIs : (number keyAt keyLength valueAt valueLength : ℕ) → answers.Found
+foundIs n k i v j = record { number = n; keyOffset = k; keyLength = i; valueOffset = v; valueLength = j }
+
+abbrev pub writtenIs : (number size : ℕ) → List ℕ → answers.Written
+writtenIs n size output = record { number = n; size = size; output = output }
+
+-- ---- what it must leave: the call on paper, and the values found
+
+unfoldable pub toldTo : Bool → answers.Told → answers.Told
+toldTo b a = toldIs (a .number) (lent (a .number) (a .yes) b)
+
+unfoldable pub countedTo : ℕ → answers.Counted → answers.Counted
+countedTo count a = countedIs (a .number) (lent (a .number) (a .count) count)
+
+unfoldable pub digestedTo : List ℕ → answers.Digested → answers.Digested
+digestedTo digest a = digestedIs (a .number) (lent (a .number) (a .digest) digest)
+
+unfoldable pub foundTo : (keyAt keyLength valueAt valueLength : ℕ) → answers.Found → answers.Found
+foundTo k i v j a =
+    foundIs (a .number) (lent (a .number) (a .keyOffset) k) (lent (a .number) (a .keyLength) i) (lent (a .number) (a .valueOffset) v)
+    (lent (a .number) (a .valueLength) j)
+
+-- the output's bytes stay by the call itself
+unfoldable pub writtenTo : ℕ → answers.Written → answers.Written
+writtenTo size a = writtenIs (a .number) (lent (a .number) (a .size) size) (a .output)
+
+-- ---- the answers of the two calls without a store, field by field
+
+abbrev pub rebuiltOf : Rebuilt → answers.Digested
+rebuiltOf r = digestedIs (r .number) (r .digest)
+
+abbrev pub hashedOf : Hashed → answers.Digested
+hashedOf r = digestedIs (r .number) (r .digest)

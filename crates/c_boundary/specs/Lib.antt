@@ -1,0 +1,2 @@
+-- What a C caller sees of the public calls.
+pub mod Lent

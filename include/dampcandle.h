@@ -1,0 +1,136 @@
+/* Dampcandle: a register map in bytes that the caller lends, with witnesses. Link libc_boundary.a (rt staticlib c_boundary, x86-64).
+ *
+ * Every call answers a number: 0 if it is done, else why it is refused (enum dampcandle_number). Where several apply, it is the first
+ * of 1, 2, 3, 4, 7, 5, 6. Each call is one function of the bytes and numbers that it is lent, and it ends, whatever they are; it keeps
+ * nothing between calls, so calls on different stores may run at the same time.
+ *
+ * What a call answers beside its number goes through pointers. A refusal changes nothing: each byte of the store and of the output, and
+ * each number, digest and yes-or-no that was lent for an answer, is as it was.
+ *
+ * What the caller owes, for nothing can test it:
+ *   - a pointer and the length after it name one array of at least that many bytes; the pointer is not null, even where the length is 0;
+ *   - what a pointer without const names overlaps nothing else that the same call is lent;
+ *   - what is lent for an answer is set to something first (a bool to false, say);
+ *   - nobody else writes to any of it during the call, or reads what the call may change.
+ *
+ * A store is 8 + 150 x capacity bytes (DAMPCANDLE_STORE_LENGTH), with room for capacity entries. It holds no pointers: it may be copied,
+ * kept in a file and lent at another place. Every call judges it anew, all of it, and answers 1 unless it is sound.
+ *
+ * Keys are byte strings of 0 to 48 bytes, in the order of their bytes as unsigned numbers, a proper prefix being smaller. Values are
+ * byte strings of 0 to 64 bytes. */
+#ifndef DAMPCANDLE_H
+#define DAMPCANDLE_H
+
+#include <stdbool.h>
+#include <stddef.h>
+#include <stdint.h>
+
+#ifdef __cplusplus
+extern "C" {
+#endif
+
+enum dampcandle_number {
+  DAMPCANDLE_DONE = 0,
+  DAMPCANDLE_NOT_SOUND = 1,    /* the store is not sound */
+  DAMPCANDLE_LONG_KEY = 2,     /* a key or a prefix is longer than 48 bytes */
+  DAMPCANDLE_LONG_VALUE = 3,   /* a value is longer than 64 bytes */
+  DAMPCANDLE_REVERSED = 4,     /* first is above last */
+  DAMPCANDLE_FULL = 5,         /* insert of an absent key, and no slot is free */
+  DAMPCANDLE_NO_ROOM = 6,      /* the output is shorter than the witness */
+  DAMPCANDLE_ABSENT = 7,       /* get, modify, delete: no such key; first_entry, next_entry: no such entry */
+  DAMPCANDLE_BAD_CAPACITY = 8, /* create: capacity 0 or above 1,024, or the length is not 8 + 150 x capacity */
+  DAMPCANDLE_MALFORMED = 9,    /* rebuild: the bytes are not exactly one witness */
+  DAMPCANDLE_LONG_MESSAGE = 10 /* hash: the message is longer than 65,536 bytes */
+};
+
+enum dampcandle_limit {
+  DAMPCANDLE_DIGEST = 32,
+  DAMPCANDLE_MAX_KEY = 48,
+  DAMPCANDLE_MAX_VALUE = 64,
+  DAMPCANDLE_MAX_CAPACITY = 1024,
+  DAMPCANDLE_MAX_MESSAGE = 65536
+};
+
+#define DAMPCANDLE_STORE_LENGTH(capacity) (8 + 150 * (size_t)(capacity))
+
+/* ---- a store as a whole */
+
+/* Makes the bytes a fresh store for capacity entries, whatever they held. 0 or 8. */
+size_t dampcandle_create(uint8_t *store, size_t store_length, uint64_t capacity);
+
+/* Whether there is no entry. 0 or 1. */
+size_t dampcandle_is_empty(const uint8_t *store, size_t store_length, bool *yes);
+
+/* How many entries there are. 0 or 1. */
+size_t dampcandle_count(const uint8_t *store, size_t store_length, size_t *count);
+
+/* The digest of the whole map, as it goes into the silicon record. 0 or 1. */
+size_t dampcandle_root_hash(const uint8_t *store, size_t store_length, uint8_t digest[32]);
+
+/* ---- entries: where in the store the key and the value lie, counted from the store's first byte, and how long they are */
+
+/* The entry of a key. 0, 1, 2 or 7. */
+size_t dampcandle_get(const uint8_t *store, size_t store_length, const uint8_t *key, size_t key_argument_length, size_t *key_at,
+                      size_t *key_length, size_t *value_at, size_t *value_length);
+
+/* The entry of the least key. 0, 1 or 7. */
+size_t dampcandle_first_entry(const uint8_t *store, size_t store_length, size_t *key_at, size_t *key_length, size_t *value_at,
+                              size_t *value_length);
+
+/* The entry of the least key above this one, which need not be there itself. 0, 1, 2 or 7. */
+size_t dampcandle_next_entry(const uint8_t *store, size_t store_length, const uint8_t *key, size_t key_argument_length, size_t *key_at,
+                             size_t *key_length, size_t *value_at, size_t *value_length);
+
+/* ---- changes */
+
+/* A new entry, or a new value for a key that is there. 0, 1, 2, 3 or 5. */
+size_t dampcandle_insert(uint8_t *store, size_t store_length, const uint8_t *key, size_t key_length, const uint8_t *value,
+                         size_t value_length);
+
+/* A new value for a key that is there. 0, 1, 2, 3 or 7. */
+size_t dampcandle_modify(uint8_t *store, size_t store_length, const uint8_t *key, size_t key_length, const uint8_t *value,
+                         size_t value_length);
+
+/* Takes an entry out. 0, 1, 2 or 7. */
+size_t dampcandle_delete(uint8_t *store, size_t store_length, const uint8_t *key, size_t key_length);
+
+/* ---- witnesses: each fills the front of the output and tells its length; the rest of the output stays. All rebuild to the root digest.
+ * A neighbour is the nearest key below or above one that is not there; its value is always cut to a digest. */
+
+/* Every key with its value. 0, 1 or 6. */
+size_t dampcandle_as_hash_tree(const uint8_t *store, size_t store_length, uint8_t *out, size_t out_length, size_t *length);
+
+/* Every key, the values cut. 0, 1 or 6. */
+size_t dampcandle_keys(const uint8_t *store, size_t store_length, uint8_t *out, size_t out_length, size_t *length);
+
+/* A key that is there, alone, with its value; of one that is not, its neighbours. 0, 1, 2 or 6. */
+size_t dampcandle_witness(const uint8_t *store, size_t store_length, const uint8_t *key, size_t key_length, uint8_t *out, size_t out_length,
+                          size_t *length);
+
+/* The keys from first to last, values cut, with a neighbour below if first is not there and one above if last is not.
+ * 0, 1, 2, 4 or 6. */
+size_t dampcandle_key_range(const uint8_t *store, size_t store_length, const uint8_t *first, size_t first_length, const uint8_t *last,
+                            size_t last_length, uint8_t *out, size_t out_length, size_t *length);
+
+/* The same with the values of the keys from first to last. 0, 1, 2, 4 or 6. */
+size_t dampcandle_value_range(const uint8_t *store, size_t store_length, const uint8_t *first, size_t first_length, const uint8_t *last,
+                              size_t last_length, uint8_t *out, size_t out_length, size_t *length);
+
+/* The keys that begin with the prefix, values cut, with the nearest key below the prefix if the prefix is no key itself, and the nearest
+ * key above that does not begin with it. 0, 1, 2 or 6. */
+size_t dampcandle_keys_with_prefix(const uint8_t *store, size_t store_length, const uint8_t *prefix, size_t prefix_length, uint8_t *out,
+                                   size_t out_length, size_t *length);
+
+/* ---- without a store */
+
+/* The digest of the tree that a witness holds: to be compared with the root digest. 0 or 9. */
+size_t dampcandle_rebuild(const uint8_t *witness, size_t witness_length, uint8_t digest[32]);
+
+/* The SHA-256 of a message. 0 or 10. */
+size_t dampcandle_hash(const uint8_t *message, size_t message_length, uint8_t digest[32]);
+
+#ifdef __cplusplus
+}
+#endif
+
+#endif
