@@ -275,16 +275,16 @@ fn save(s: &[u8], n: usize, walk: Walk, f: What, out: &mut [u8]) -> Saved
 fn range_walk(left: Bound, right: Bound) -> Walk
     ensures { λ r. ⌜ r ≡ walkBetween left right ⌝ }
 {
-    match left {
-        Bound::Nothing => match right {
-            Bound::Nothing => Walk::Full,
-            Bound::At(hi) => Walk::Below(hi),
-        },
-        Bound::At(lo) => match right {
-            Bound::Nothing => Walk::Above(lo),
-            Bound::At(hi) => Walk::Between(lo, hi),
-        },
-    }
+    let Bound::At(lo) = left else {
+        let Bound::At(hi) = right else {
+            return Walk::Full;
+        };
+        return Walk::Below(hi);
+    };
+    let Bound::At(hi) = right else {
+        return Walk::Above(lo);
+    };
+    Walk::Between(lo, hi)
 }
 
 fn range_witness(s: &[u8], root: usize, left: Bound, right: Bound, f: What, out: &mut [u8]) -> Saved
