@@ -1,6 +1,6 @@
 #!/bin/bash
-# check-promises.sh: whether every name in docs/PROMISES.md, and in the theorem tables of docs/ARCHITECTURE.md, still stands in its
-# file. It prints each row whose name or file is gone and then fails; else it prints how many rows and names it checked.
+# check-promises.sh: whether every name in docs/PROMISES.md, and in the tables of theorems and forms of docs/ARCHITECTURE.md, still
+# stands in its file. It prints each row whose name or file is gone and then fails; else it prints how many rows and names it checked.
 # It reads names and proves nothing: that they are proved is the gate's word.
 set -eu
 cd "$(dirname "$0")/.."
@@ -90,6 +90,14 @@ check() { # PAGE, with rows on standard input
 check docs/PROMISES.md < <(promised)
 check docs/ARCHITECTURE.md < <(designed)
 
+# The table of forms: after each `file:line` the name that stands there.
+forms=0
+while read -r file line name; do
+  forms=$((forms + 1))
+  sed -n "${line}p" "crates/$file" 2>/dev/null | grep -qF -e "$name" || { echo "docs/ARCHITECTURE.md: no $name in line $line of crates/$file"; gone=$((gone + 1)); }
+done < <(grep -oE '`[a-z_0-9]+/[^`]*:[0-9]+` `[^`]+`' docs/ARCHITECTURE.md | tr -d '`' | sed -E 's/:([0-9]+) / \1 /')
+[ "$forms" -ge 20 ] || { echo "only $forms places of forms were read: has the table changed?"; gone=$((gone + 1)); }
+
 for public in crates/register_map/src/lib.rt crates/c_boundary/src/lib.rt; do
   if grep -n '^ *requires' "$public"; then
     echo "$public: a public crate's function has a requires"
@@ -97,5 +105,5 @@ for public in crates/register_map/src/lib.rt crates/c_boundary/src/lib.rt; do
   fi
 done
 [ "$rows" -ge 90 ] || { echo "only $rows rows were read: has a table's form changed?"; gone=$((gone + 1)); }
-echo "check-promises: $rows rows, $names names, $gone gone"
+echo "check-promises: $rows rows, $names names, $forms places of forms, $gone gone"
 [ "$gone" = 0 ]
