@@ -1,0 +1,24 @@
+use mathlib.Core.Path.{ap}
+use native.Mathlib.Omega.{arith}
+use borrow.Author.Needs.{needs}
+use Rattle.store.specs.Answers as answers
+use Rattle.register_map.proofs.Changing.{modify-after}
+use Rattle.timed.proofs.Rowing.{change-sound}
+use borrow.Author.Needs.{needs}
+use Rattle.timed.proofs.modify_row.Statement.{statement}
+use Rattle.timed.proofs.modify_row.Tie as tie
+
+modify-requires : tie.Need-modify-requires
+modify-requires c κs = search needs
+
+same-length : tie.Need-same-length
+same-length c = search needs
+
+returns : tie.Need-returns
+returns c =
+    let a = c .before .before .before .before .before .before .before .pre .0 in
+    let w = c .before .before .modify .ensures (a .0) (a .1) in
+    (change-sound _ a _ (c .before .before .modify .result) w, ap (λ (x : answers.Changed). x .store) (modify-after a _ (c .before .before .before .before .before .before .before .pre .1 .0) _ (c .before .before .before .before .before .before .before .pre .1 .1) (λ k. omega (arith, c .before .before .before .before .before .before .slice-known .given k)) (c .before .before .modify .result) w))
+
+pub modify-row-spec : {M : Type 1} → statement M
+modify-row-spec = tie.close (tie.spec modify-requires same-length returns)

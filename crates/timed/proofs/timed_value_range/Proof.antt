@@ -1,0 +1,51 @@
+use borrow.Author.Needs.{needs}
+use Rattle.judge.proofs.Deciding.{decides-no, decides-yes}
+use Rattle.timed.proofs.Rowing.{refused, ran}
+use Rattle.timed.proofs.timed_value_range.Statement.{statement}
+use Rattle.timed.proofs.timed_value_range.Tie as tie
+
+has-keys-requires : tie.Need-has-keys-requires
+has-keys-requires c κs = search needs
+
+returns : tie.Need-returns
+returns c =
+    refused (λ p. decides-no (c .before .has-keys .result) (c .if1 .taken) (c .before .has-keys .ensures) (p .1))
+
+has-keys-requires-2 : tie.Need-has-keys-requires-2
+has-keys-requires-2 c κs = search needs
+
+returns-2 : tie.Need-returns-2
+returns-2 c =
+    refused (λ p. decides-no (c .before .has-keys2 .result) (c .if2 .taken) (c .before .has-keys2 .ensures) (p .2))
+
+judge-requires : tie.Need-judge-requires
+judge-requires c κs = search needs
+
+returns-3 : tie.Need-returns-3
+returns-3 c =
+    refused (λ p. decides-no (c .before .judge .result) (c .if3 .taken) (c .before .judge .ensures) (p .0))
+
+value-range-rows-requires : tie.Need-value-range-rows-requires
+value-range-rows-requires c κs =
+    (decides-yes (c .before .before .judge .result) (c .before .if3 .left) (c .before .before .judge .ensures), (decides-yes (c .before .before .before .before .before .before .has-keys .result) (c .before .before .before .before .before .if1 .left) (c .before .before .before .before .before .before .has-keys .ensures), decides-yes (c .before .before .before .before .has-keys2 .result) (c .before .before .before .if2 .left) (c .before .before .before .before .has-keys2 .ensures)))
+
+same-length : tie.Need-same-length
+same-length c = search needs
+
+returns-4 : tie.Need-returns-4
+returns-4 c =
+    ran (decides-yes (c .before .before .before .before .before .judge .result) (c .before .before .before .before .if3 .left) (c .before .before .before .before .before .judge .ensures), decides-yes (c .before .before .before .before .before .before .before .before .before .has-keys .result) (c .before .before .before .before .before .before .before .before .if1 .left) (c .before .before .before .before .before .before .before .before .before .has-keys .ensures), decides-yes (c .before .before .before .before .before .before .before .has-keys2 .result) (c .before .before .before .before .before .before .if2 .left) (c .before .before .before .before .before .before .before .has-keys2 .ensures)) (c .before .before .value-range-rows .ensures)
+
+pub timed-value-range-spec : {M : Type 1} → statement M
+timed-value-range-spec =
+    tie.close
+    (tie.spec
+    has-keys-requires
+    returns
+    has-keys-requires-2
+    returns-2
+    judge-requires
+    returns-3
+    value-range-rows-requires
+    same-length
+    returns-4)
