@@ -127,19 +127,3 @@ pub fn decimal(word: &[u8]) -> Number {
     }
     Number::Is(n)
 }
-
-pub enum Size {
-    Is(usize),
-    Bad,
-}
-
-// A number up to `most`.
-pub fn upto(word: &[u8], most: usize) -> Size {
-    let Number::Is(n) = decimal(word) else {
-        return Size::Bad;
-    };
-    if n <= most as u64 {
-        return Size::Is(n as usize);
-    }
-    Size::Bad
-}
