@@ -1,4 +1,5 @@
 // The calls that lines ask for, made on the driver's store and output.
+use crate::asked::Span;
 use crate::asked::asked_by;
 use crate::input::read_line;
 use crate::names::Ask;
@@ -196,8 +197,10 @@ fn show(which: Show, a: &[u8], b: &[u8], store: &[u8], output: &mut [u8]) {
 
 // ---- lines
 
-// Bytes `from` to `to` of a line, which has them.
-fn part(line: &[u8], from: usize, to: usize) -> &[u8] {
+// These bytes of a line, which has them.
+fn part(line: &[u8], at: Span) -> &[u8] {
+    let from = at.from;
+    let to = at.to;
     if from <= to {
         if to <= line.len() {
             return &line[from..to];
@@ -220,11 +223,11 @@ fn perform(call: Call, number: u64, a: &[u8], b: &[u8], store: &mut [u8], output
 fn answer(line: &mut [u8], store: &mut [u8], output: &mut [u8], sizes: Sizes) -> Sizes {
     let x = asked_by(line);
     let call = x.call;
-    let a = part(line, x.a, x.a_end);
+    let a = part(line, x.a);
     if let Call::Setup(which) = call {
         return set_up(which, x.number, a, store, output.len(), sizes);
     }
-    let b = part(line, x.b, x.b_end);
+    let b = part(line, x.b);
     let n = within(sizes.store, store);
     let m = within(sizes.output, output);
     perform(call, x.number, a, b, &mut store[..n], &mut output[..m]);

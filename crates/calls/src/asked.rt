@@ -1,160 +1,154 @@
-// What a line asks for.
-use crate::names;
+// What a line asks for. Each word is read in every way that a call may want; then the call says which reading counts.
 use crate::names::Call;
-use crate::names::Setup;
+use crate::names::named;
+use crate::names::takes_number;
 use crate::words::Number;
 use crate::words::decimal;
-use crate::words::is;
 use crate::words::is_hex;
 use crate::words::unhex;
 use crate::words::word_end;
-ghost use Prim.Native.Nat.{_<_, _≤_};
+ghost use Prim.Native.Nat.{_≤_};
 ghost use lib.ListN.{length};
+
+pub struct Span {
+    pub from: usize,
+    pub to: usize,
+}
 
 // The call, its number if it takes one, and where in the line its bytes lie, now that they stand there in place of their hex.
 pub struct Asked {
     pub call: Call,
     pub number: u64,
-    pub a: usize,
-    pub a_end: usize,
-    pub b: usize,
-    pub b_end: usize,
+    pub a: Span,
+    pub b: Span,
 }
 
-fn without_bytes(call: Call, number: u64) -> Asked {
+// A call that takes no bytes.
+fn bare(call: Call, number: u64) -> Asked {
     Asked {
         call,
         number,
-        a: 0,
-        a_end: 0,
-        b: 0,
-        b_end: 0,
+        a: Span { from: 0, to: 0 },
+        b: Span { from: 0, to: 0 },
     }
 }
 
 fn unknown() -> Asked {
-    without_bytes(Call::Unknown, 0)
+    bare(Call::Unknown, 0)
 }
 
-// Where the bytes end that a word, now in their place, stood for.
+// Where the bytes lie that a word stood for, now in its place.
 enum Bytes {
-    End(usize),
+    At(Span),
     Bad,
 }
 
-fn turned(line: &mut [u8], from: usize, to: usize) -> Bytes
+fn bytes_of(line: &mut [u8], from: usize, to: usize) -> Bytes
     requires { ⌜ (from ≤ to) × (to ≤ length (now line)) ⌝ }
 {
     if !is_hex(&line[from..to]) {
         return Bytes::Bad;
     }
-    Bytes::End(from + unhex(&mut line[from..to]))
+    let n = unhex(&mut line[from..to]);
+    Bytes::At(Span { from, to: from + n })
 }
 
-// A call with the number that a word stands for.
-fn numbered(call: Call, word: &[u8]) -> Asked {
-    let Number::Is(n) = decimal(word) else {
+// A word, and a number.
+fn with_number(call: Call, number: Number) -> Asked {
+    let Number::Is(n) = number else {
         return unknown();
     };
-    without_bytes(call, n)
+    bare(call, n)
 }
 
-// A word that ends at `a`, and bytes.
-fn with_bytes(line: &mut [u8], a: usize) -> Asked
-    requires { ⌜ a < length (now line) ⌝ }
-{
-    let z = 0;
-    let s = a + 1;
-    let call = names::with_bytes(&line[z..a]);
-    let Bytes::End(e) = turned(line, s, line.len()) else {
+// A word, a number or bytes, and bytes.
+fn with_both(call: Call, number: Number, second: Bytes, third: Bytes) -> Asked {
+    let Bytes::At(b) = third else {
         return unknown();
     };
-    Asked {
-        call,
-        number: 0,
-        a: s,
-        a_end: e,
-        b: 0,
-        b_end: 0,
+    if takes_number(call) {
+        let Number::Is(n) = number else {
+            return unknown();
+        };
+        return Asked {
+            call,
+            number: n,
+            a: b,
+            b,
+        };
     }
-}
-
-// A word that ends at `a`, and another.
-fn two_words(line: &mut [u8], a: usize) -> Asked
-    requires { ⌜ a < length (now line) ⌝ }
-{
-    let z = 0;
-    let s = a + 1;
-    let call = names::with_number(&line[z..a]);
-    match call {
-        Call::Unknown => with_bytes(line, a),
-        _ => numbered(call, &line[s..]),
-    }
-}
-
-// A word that ends at `a`, another that ends at `b`, and bytes, which begin after it and end at `e`.
-fn with_both(line: &mut [u8], a: usize, b: usize, e: usize) -> Asked
-    requires { ⌜ (a < b) × (b ≤ length (now line)) ⌝ }
-{
-    let z = 0;
-    let s = a + 1;
-    let call = names::with_both(&line[z..a]);
-    let Bytes::End(d) = turned(line, s, b) else {
+    let Bytes::At(a) = second else {
         return unknown();
     };
     Asked {
         call,
         number: 0,
-        a: s,
-        a_end: d,
-        b: b + 1,
-        b_end: e,
+        a,
+        b,
     }
 }
 
-fn poke(word: &[u8], from: usize, to: usize) -> Asked {
-    let Number::Is(number) = decimal(word) else {
+// A word, and bytes.
+fn with_bytes(call: Call, second: Bytes) -> Asked {
+    let Bytes::At(a) = second else {
         return unknown();
     };
     Asked {
-        call: Call::Setup(Setup::Poke),
-        number,
-        a: from,
-        a_end: to,
-        b: 0,
-        b_end: 0,
+        call,
+        number: 0,
+        a,
+        b: a,
     }
 }
 
-// A word that ends at `a`, another that ends at `b`, and a third.
-fn three_words(line: &mut [u8], a: usize, b: usize) -> Asked
-    requires { ⌜ (a < b) × (b < length (now line)) ⌝ }
-{
-    let z = 0;
-    let s = a + 1;
-    let t = b + 1;
-    let Bytes::End(e) = turned(line, t, line.len()) else {
-        return unknown();
-    };
-    if is(&line[z..a], b"poke") {
-        return poke(&line[s..b], t, e);
+// What a line of so many words asks for.
+fn settled(count: usize, call: Call, number: Number, second: Bytes, third: Bytes) -> Asked {
+    if count == 1 {
+        return bare(call, 0);
     }
-    with_both(line, a, b, e)
+    if count == 3 {
+        return with_both(call, number, second, third);
+    }
+    if takes_number(call) {
+        return with_number(call, number);
+    }
+    with_bytes(call, second)
+}
+
+// Where the next word begins, if the line does not end with this one.
+fn past(end: usize, n: usize) -> usize
+    requires { ⌜ end ≤ n ⌝ }
+    ensures { λ r. ⌜ (end ≤ r) × (r ≤ n) ⌝ }
+{
+    if end < n { end + 1 } else { n }
+}
+
+// How many words there are, up to 4, given where the first three end.
+fn count(n: usize, a: usize, b: usize, c: usize) -> usize {
+    if a == n {
+        return 1;
+    }
+    if b == n {
+        return 2;
+    }
+    if c == n {
+        return 3;
+    }
+    4
 }
 
 pub fn asked_by(line: &mut [u8]) -> Asked {
     let n = line.len();
-    let a = word_end(line, 0);
-    if a == n {
-        return without_bytes(names::alone(line), 0);
-    }
-    let b = word_end(line, a + 1);
-    if b == n {
-        return two_words(line, a);
-    }
-    let c = word_end(line, b + 1);
-    if c == n {
-        return three_words(line, a, b);
-    }
-    unknown()
+    let z = 0;
+    let a = word_end(line, z);
+    let s = past(a, n);
+    let b = word_end(line, s);
+    let t = past(b, n);
+    let c = word_end(line, t);
+    let words = count(n, a, b, c);
+    let call = named(&line[z..a], words);
+    let number = decimal(&line[s..b]);
+    let second = bytes_of(line, s, b);
+    let third = bytes_of(line, t, c);
+    settled(words, call, number, second, third)
 }

@@ -50,7 +50,7 @@ pub enum Call {
 }
 
 // A line of this word alone.
-pub fn alone(name: &[u8]) -> Call {
+fn alone(name: &[u8]) -> Call {
     if is(name, b"first") {
         return Call::Ask(Ask::First);
     }
@@ -78,8 +78,8 @@ pub fn alone(name: &[u8]) -> Call {
     Call::Unknown
 }
 
-// This word and a number.
-pub fn with_number(name: &[u8]) -> Call {
+// This word and another.
+fn with_one(name: &[u8]) -> Call {
     if is(name, b"buffer") {
         return Call::Setup(Setup::Buffer);
     }
@@ -89,11 +89,6 @@ pub fn with_number(name: &[u8]) -> Call {
     if is(name, b"create") {
         return Call::Change(Change::Create);
     }
-    Call::Unknown
-}
-
-// This word and bytes.
-pub fn with_bytes(name: &[u8]) -> Call {
     if is(name, b"load") {
         return Call::Setup(Setup::Load);
     }
@@ -121,8 +116,11 @@ pub fn with_bytes(name: &[u8]) -> Call {
     Call::Unknown
 }
 
-// This word, bytes and bytes.
-pub fn with_both(name: &[u8]) -> Call {
+// This word and two more.
+fn with_two(name: &[u8]) -> Call {
+    if is(name, b"poke") {
+        return Call::Setup(Setup::Poke);
+    }
     if is(name, b"insert") {
         return Call::Change(Change::Insert);
     }
@@ -136,4 +134,29 @@ pub fn with_both(name: &[u8]) -> Call {
         return Call::Show(Show::ValueRange);
     }
     Call::Unknown
+}
+
+// The call that a line of so many words names by its first.
+pub fn named(name: &[u8], words: usize) -> Call {
+    match words {
+        1 => alone(name),
+        2 => with_one(name),
+        3 => with_two(name),
+        _ => Call::Unknown,
+    }
+}
+
+// Whether the word after the name is a number, and not bytes.
+pub fn takes_number(call: Call) -> bool {
+    match call {
+        Call::Setup(which) => match which {
+            Setup::Load => false,
+            _ => true,
+        },
+        Call::Change(which) => match which {
+            Change::Create => true,
+            _ => false,
+        },
+        _ => false,
+    }
 }
