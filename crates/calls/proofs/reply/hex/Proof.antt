@@ -13,95 +13,72 @@ Inv-loop s piece₀ at₀ i₀ piece at i = (at ≤ 4094) × (i ≤ length s) ×
 abbrev μ-loop : tie.MeasureT-loop
 μ-loop s piece₀ at₀ i₀ piece at i = length s - i
 
--- src/reply.rt:41:14
 slice-aggregate-text : tie.Need-slice-aggregate-text Inv-loop μ-loop
 slice-aggregate-text c = search needs
 
--- src/reply.rt:41:9
 text-requires : tie.Need-text-requires Inv-loop μ-loop
 text-requires c κs = search needs
 
--- src/reply.rt:42:9
 returns : tie.Need-returns Inv-loop μ-loop
 returns c = search needs
 
--- src/reply.rt:47:5
 loop-holds : tie.Need-loop-holds Inv-loop μ-loop
 loop-holds c = search needs
 
--- src/reply.rt:48:27
 shared-slice-read-digit : tie.Need-shared-slice-read-digit Inv-loop μ-loop
 shared-slice-read-digit c = search needs
 
--- src/reply.rt:48:21
 digit-requires : tie.Need-digit-requires Inv-loop μ-loop
 digit-requires c κs = search needs
 
--- src/reply.rt:48:9
 array-write-piece : tie.Need-array-write-piece Inv-loop μ-loop
 array-write-piece c = search needs
 
--- src/reply.rt:49:31
 shared-slice-read-digit-2 : tie.Need-shared-slice-read-digit-2 Inv-loop μ-loop
 shared-slice-read-digit-2 c = search needs
 
--- src/reply.rt:49:25
 digit-requires-2 : tie.Need-digit-requires-2 Inv-loop μ-loop
 digit-requires-2 c κs = search needs
 
--- src/reply.rt:49:15
 add-piece : tie.Need-add-piece Inv-loop μ-loop
 add-piece c = search needs
 
--- src/reply.rt:49:9
 array-write-piece-2 : tie.Need-array-write-piece-2 Inv-loop μ-loop
 array-write-piece-2 c = search needs
 
--- src/reply.rt:50:9
 add-at : tie.Need-add-at Inv-loop μ-loop
 add-at c = search needs
 
--- src/reply.rt:51:9
 add-i : tie.Need-add-i Inv-loop μ-loop
 add-i c = search needs
 
--- src/reply.rt:53:18
 slice-aggregate-text-2 : tie.Need-slice-aggregate-text-2 Inv-loop μ-loop
 slice-aggregate-text-2 c = search needs
 
--- src/reply.rt:53:13
 text-requires-2 : tie.Need-text-requires-2 Inv-loop μ-loop
 text-requires-2 c κs = search needs
 
--- src/reply.rt:47:5
 loop-less : tie.Need-loop-less Inv-loop μ-loop
 loop-less c = search needs
 
--- src/reply.rt:47:5
 loop-again : tie.Need-loop-again Inv-loop μ-loop
 loop-again c = search needs
 
--- src/reply.rt:47:5
 loop-less-2 : tie.Need-loop-less-2 Inv-loop μ-loop
 loop-less-2 c = search needs
 
--- src/reply.rt:47:5
 loop-again-2 : tie.Need-loop-again-2 Inv-loop μ-loop
 loop-again-2 c = search needs
 
--- src/reply.rt:57:10
 array-share-prefix-piece : tie.Need-array-share-prefix-piece Inv-loop μ-loop
 array-share-prefix-piece c = search needs
 
--- src/reply.rt:57:10
 slice-aggregate-text-3 : tie.Need-slice-aggregate-text-3 Inv-loop μ-loop
 slice-aggregate-text-3 c = sym (length-take-le _ _ (omega arith))
 
--- src/reply.rt:57:5
 text-requires-3 : tie.Need-text-requires-3 Inv-loop μ-loop
 text-requires-3 c κs = search needs
 
--- src/reply.rt:39:1
 returns-2 : tie.Need-returns-2 Inv-loop μ-loop
 returns-2 c = search needs
 
