@@ -220,35 +220,20 @@ fn perform(call: Call, number: u64, a: &[u8], b: &[u8], store: &mut [u8], output
     }
 }
 
-fn answer(line: &mut [u8], store: &mut [u8], output: &mut [u8], sizes: Sizes) -> Sizes {
-    let x = asked_by(line);
+// Answers a line of `n` bytes.
+fn answer(line: &mut [u8], n: usize, store: &mut [u8], output: &mut [u8], sizes: Sizes) -> Sizes {
+    let end = within(n, line);
+    let x = asked_by(&mut line[..end]);
     let call = x.call;
     let a = part(line, x.a);
     if let Call::Setup(which) = call {
         return set_up(which, x.number, a, store, output.len(), sizes);
     }
     let b = part(line, x.b);
-    let n = within(sizes.store, store);
+    let k = within(sizes.store, store);
     let m = within(sizes.output, output);
-    perform(call, x.number, a, b, &mut store[..n], &mut output[..m]);
+    perform(call, x.number, a, b, &mut store[..k], &mut output[..m]);
     sizes
-}
-
-// Answers a line of `n` bytes, if it fitted.
-fn answer_line(
-    line: &mut [u8],
-    n: usize,
-    fits: bool,
-    store: &mut [u8],
-    output: &mut [u8],
-    sizes: Sizes,
-) -> Sizes {
-    if !fits {
-        say_unknown();
-        return sizes;
-    }
-    let k = within(n, line);
-    answer(&mut line[..k], store, output, sizes)
 }
 
 // A loop has to end, and nothing says that the input does: it counts its turns down, from a number that no run uses up.
@@ -268,6 +253,6 @@ pub fn run(chunk: &mut [u8], line: &mut [u8], store: &mut [u8], output: &mut [u8
         }
         at = got.at;
         end = got.end;
-        sizes = answer_line(line, got.len, got.fits, store, output, sizes);
+        sizes = answer(line, got.len, store, output, sizes);
     }
 }

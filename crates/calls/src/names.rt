@@ -1,5 +1,5 @@
 // The calls, parted by what they need of the driver, and the words that name them.
-use crate::words::is;
+use crate::words::place;
 
 // Sets the driver's own bytes; answers `ok`.
 pub enum Setup {
@@ -51,89 +51,50 @@ pub enum Call {
 
 // A line of this word alone.
 fn alone(name: &[u8]) -> Call {
-    if is(name, b"first") {
-        return Call::Ask(Ask::First);
+    match place(name, b"first count empty root store sum full keys") {
+        0 => Call::Ask(Ask::First),
+        1 => Call::Ask(Ask::Count),
+        2 => Call::Ask(Ask::Empty),
+        3 => Call::Ask(Ask::Root),
+        4 => Call::Ask(Ask::Store),
+        5 => Call::Ask(Ask::Sum),
+        6 => Call::Show(Show::Full),
+        7 => Call::Show(Show::Keys),
+        _ => Call::Unknown,
     }
-    if is(name, b"count") {
-        return Call::Ask(Ask::Count);
-    }
-    if is(name, b"empty") {
-        return Call::Ask(Ask::Empty);
-    }
-    if is(name, b"root") {
-        return Call::Ask(Ask::Root);
-    }
-    if is(name, b"store") {
-        return Call::Ask(Ask::Store);
-    }
-    if is(name, b"sum") {
-        return Call::Ask(Ask::Sum);
-    }
-    if is(name, b"full") {
-        return Call::Show(Show::Full);
-    }
-    if is(name, b"keys") {
-        return Call::Show(Show::Keys);
-    }
-    Call::Unknown
 }
 
 // This word and another.
 fn with_one(name: &[u8]) -> Call {
-    if is(name, b"buffer") {
-        return Call::Setup(Setup::Buffer);
+    match place(
+        name,
+        b"buffer room load create delete get next rebuild hash witness prefix",
+    ) {
+        0 => Call::Setup(Setup::Buffer),
+        1 => Call::Setup(Setup::Room),
+        2 => Call::Setup(Setup::Load),
+        3 => Call::Change(Change::Create),
+        4 => Call::Change(Change::Delete),
+        5 => Call::Ask(Ask::Get),
+        6 => Call::Ask(Ask::Next),
+        7 => Call::Ask(Ask::Rebuild),
+        8 => Call::Ask(Ask::Hash),
+        9 => Call::Show(Show::Witness),
+        10 => Call::Show(Show::Prefix),
+        _ => Call::Unknown,
     }
-    if is(name, b"room") {
-        return Call::Setup(Setup::Room);
-    }
-    if is(name, b"create") {
-        return Call::Change(Change::Create);
-    }
-    if is(name, b"load") {
-        return Call::Setup(Setup::Load);
-    }
-    if is(name, b"delete") {
-        return Call::Change(Change::Delete);
-    }
-    if is(name, b"get") {
-        return Call::Ask(Ask::Get);
-    }
-    if is(name, b"next") {
-        return Call::Ask(Ask::Next);
-    }
-    if is(name, b"rebuild") {
-        return Call::Ask(Ask::Rebuild);
-    }
-    if is(name, b"hash") {
-        return Call::Ask(Ask::Hash);
-    }
-    if is(name, b"witness") {
-        return Call::Show(Show::Witness);
-    }
-    if is(name, b"prefix") {
-        return Call::Show(Show::Prefix);
-    }
-    Call::Unknown
 }
 
 // This word and two more.
 fn with_two(name: &[u8]) -> Call {
-    if is(name, b"poke") {
-        return Call::Setup(Setup::Poke);
+    match place(name, b"poke insert modify krange vrange") {
+        0 => Call::Setup(Setup::Poke),
+        1 => Call::Change(Change::Insert),
+        2 => Call::Change(Change::Modify),
+        3 => Call::Show(Show::KeyRange),
+        4 => Call::Show(Show::ValueRange),
+        _ => Call::Unknown,
     }
-    if is(name, b"insert") {
-        return Call::Change(Change::Insert);
-    }
-    if is(name, b"modify") {
-        return Call::Change(Change::Modify);
-    }
-    if is(name, b"krange") {
-        return Call::Show(Show::KeyRange);
-    }
-    if is(name, b"vrange") {
-        return Call::Show(Show::ValueRange);
-    }
-    Call::Unknown
 }
 
 // The call that a line of so many words names by its first.
