@@ -2,13 +2,18 @@
 //!
 //!     oracle calls                 answers a script of `calls` on standard input, a line for each line
 //!     oracle script SEED LINES     writes a random script
+//!     oracle fuzz SEED LINES       writes a script in which any bytes may arrive
+//!     oracle fuzzed SCRIPT ANSWERS ..    holds the answers to such scripts to document 01's table
 //!     oracle cases trees           writes crates/cases/proofs/Trees.antt
 //!     oracle cases witnesses       writes crates/cases/proofs/Witnesses.antt
 //!
 //! rb_tree/mod.rs is the customer's file, unchanged; `hash_tree` is a stand-in written from the Interface Specification.
 mod calls;
 mod cases;
+mod fuzz;
+mod fuzzed;
 mod hash_tree;
+mod lies;
 #[allow(dead_code)]
 #[path = "rust_map.rs"]
 mod rb_tree;
@@ -35,6 +40,21 @@ fn main() {
                 writeln!(out, "{line}").unwrap();
             }
         }
+        ["fuzz", seed, lines] => {
+            for line in fuzz::script(seed.parse().unwrap(), lines.parse().unwrap()) {
+                out.write_all(&line).unwrap();
+                out.write_all(b"\n").unwrap();
+            }
+        }
+        ["fuzzed", ref files @ ..] => {
+            let mut held = fuzzed::Held::default();
+            for pair in files.chunks(2) {
+                held.hold(&std::fs::read(pair[0]).unwrap(), &std::fs::read(pair[1]).unwrap());
+            }
+            if !held.report() {
+                std::process::exit(1);
+            }
+        }
         ["cases", what] => {
             hash_tree::remember();
             if what == "trees" {
@@ -43,6 +63,6 @@ fn main() {
                 cases::witnesses()
             }
         }
-        _ => eprintln!("usage: oracle calls < SCRIPT; oracle script SEED LINES; oracle cases trees|witnesses"),
+        _ => eprintln!("usage: oracle calls < SCRIPT; oracle script|fuzz SEED LINES; oracle fuzzed SCRIPT ANSWERS ..; oracle cases trees|witnesses"),
     }
 }

@@ -16,7 +16,7 @@ pub struct Store {
 }
 
 /// The bits of `bytes` from bit `from` on, most significant first.
-fn bits(bytes: &[u8], from: usize, width: usize) -> usize {
+pub fn bits(bytes: &[u8], from: usize, width: usize) -> usize {
     (from..from + width).fold(0, |sum, i| sum * 2 + (bytes[i / 8] >> (7 - i % 8) & 1) as usize)
 }
 

@@ -1,339 +1,258 @@
-// A line's words, and the call that they ask for.
+// The calls that lines ask for, made on the driver's store and output.
+use crate::asked::Span;
+use crate::asked::asked_by;
 use crate::input::read_line;
-use crate::kinds;
-use crate::kinds::State;
-use crate::kinds::said;
-use crate::reply::put;
-use crate::reply::put_hex;
-use crate::reply::unknown;
+use crate::names::Ask;
+use crate::names::Call;
+use crate::names::Change;
+use crate::names::Setup;
+use crate::names::Show;
+use crate::reply::say_bytes;
+use crate::reply::say_count;
+use crate::reply::say_digest;
+use crate::reply::say_found;
+use crate::reply::say_number;
+use crate::reply::say_ok;
+use crate::reply::say_unknown;
+use crate::reply::say_whether;
+use crate::reply::say_witness;
 use crate::reply::within;
-use crate::words::is;
-use crate::words::is_hex;
-use crate::words::unhex;
-use crate::words::word_end;
-use libc::STDOUT_FILENO;
-ghost use Prim.Native.Nat.{_<_, _≤_};
-ghost use lib.ListN.{length};
+use witness::Saved;
 
-fn one_word(word: &[u8], store: &[u8], output: &mut [u8], text: &mut [u8]) -> usize {
-    if is(word, b"first") {
-        return kinds::first(store, text);
-    }
-    if is(word, b"count") {
-        return kinds::count(store, text);
-    }
-    if is(word, b"empty") {
-        return kinds::empty(store, text);
-    }
-    if is(word, b"root") {
-        return kinds::root(store, text);
-    }
-    if is(word, b"full") {
-        return kinds::full(store, output, text);
-    }
-    if is(word, b"keys") {
-        return kinds::keys(store, output, text);
-    }
-    if is(word, b"store") {
-        return put_hex(text, 0, store);
-    }
-    if is(word, b"sum") {
-        return kinds::sum(store, text);
-    }
-    unknown(text)
-}
-
-// One argument, which is bytes.
-fn one_argument(
-    name: &[u8],
-    bytes: &[u8],
-    store: &mut [u8],
-    output: &mut [u8],
-    text: &mut [u8],
-) -> usize {
-    if is(name, b"get") {
-        return kinds::get(bytes, store, text);
-    }
-    if is(name, b"next") {
-        return kinds::next(bytes, store, text);
-    }
-    if is(name, b"delete") {
-        return kinds::delete(bytes, store, text);
-    }
-    if is(name, b"witness") {
-        return kinds::witness(bytes, store, output, text);
-    }
-    if is(name, b"prefix") {
-        return kinds::prefix(bytes, store, output, text);
-    }
-    if is(name, b"rebuild") {
-        return kinds::rebuild(bytes, text);
-    }
-    if is(name, b"hash") {
-        return kinds::hash(bytes, text);
-    }
-    unknown(text)
-}
-
-fn one_bytes(
-    name: &[u8],
-    bytes: &[u8],
-    store: &mut [u8],
-    output: &mut [u8],
-    text: &mut [u8],
-    state: State,
-) -> State {
-    if is(name, b"load") {
-        return kinds::load(bytes, store, text, state);
-    }
-    let n = within(state.store, store);
-    let m = within(state.output, output);
-    said(
-        state,
-        one_argument(name, bytes, &mut store[..n], &mut output[..m], text),
-    )
-}
-
-// The first word ends at `a`; the second is to be bytes.
-fn one_hex(
-    line: &mut [u8],
-    a: usize,
-    store: &mut [u8],
-    output: &mut [u8],
-    text: &mut [u8],
-    state: State,
-) -> State
-    requires { ⌜ a < length (now line) ⌝ }
-{
-    let s = a + 1;
-    if !is_hex(&line[s..]) {
-        return said(state, unknown(text));
-    }
-    let n = unhex(&mut line[s..]);
-    let z = 0;
-    let e = s + n;
-    one_bytes(&line[z..a], &line[s..e], store, output, text, state)
-}
-
-// The first word ends at `a`.
-fn two_words(
-    line: &mut [u8],
-    a: usize,
-    store: &mut [u8],
-    output: &mut [u8],
-    text: &mut [u8],
-    state: State,
-) -> State
-    requires { ⌜ a < length (now line) ⌝ }
-{
-    let z = 0;
-    let s = a + 1;
-    if is(&line[z..a], b"buffer") {
-        return kinds::buffer(&line[s..], store, text, state);
-    }
-    if is(&line[z..a], b"room") {
-        return kinds::room(&line[s..], output, text, state);
-    }
-    if is(&line[z..a], b"create") {
-        let n = within(state.store, store);
-        return said(state, kinds::create(&line[s..], &mut store[..n], text));
-    }
-    one_hex(line, a, store, output, text, state)
-}
-
-// Two arguments, which are bytes.
-fn two_arguments(
-    name: &[u8],
-    a: &[u8],
-    b: &[u8],
-    store: &mut [u8],
-    output: &mut [u8],
-    text: &mut [u8],
-) -> usize {
-    if is(name, b"insert") {
-        return kinds::insert(a, b, store, text);
-    }
-    if is(name, b"modify") {
-        return kinds::modify(a, b, store, text);
-    }
-    if is(name, b"krange") {
-        return kinds::krange(a, b, store, output, text);
-    }
-    if is(name, b"vrange") {
-        return kinds::vrange(a, b, store, output, text);
-    }
-    unknown(text)
-}
-
-// The first word ends at `a`, the second at `b`, and the third, at `t`, has been turned into bytes, which end at `e`.
-fn two_hex(
-    line: &mut [u8],
-    a: usize,
-    b: usize,
-    t: usize,
-    e: usize,
-    store: &mut [u8],
-    output: &mut [u8],
-    text: &mut [u8],
-) -> usize
-    requires { ⌜ (a < b) × (b < t) × (t ≤ e) × (e ≤ length (now line)) ⌝ }
-{
-    let z = 0;
-    let s = a + 1;
-    if is(&line[z..a], b"poke") {
-        return kinds::poke(&line[s..b], &line[t..e], store, text);
-    }
-    if !is_hex(&line[s..b]) {
-        return unknown(text);
-    }
-    let n = unhex(&mut line[s..b]);
-    let d = s + n;
-    two_arguments(&line[z..a], &line[s..d], &line[t..e], store, output, text)
-}
-
-// The first word ends at `a`, the second at `b`.
-fn three_words(
-    line: &mut [u8],
-    a: usize,
-    b: usize,
-    store: &mut [u8],
-    output: &mut [u8],
-    text: &mut [u8],
-    state: State,
-) -> State
-    requires { ⌜ (a < b) × (b < length (now line)) ⌝ }
-{
-    let t = b + 1;
-    if !is_hex(&line[t..]) {
-        return said(state, unknown(text));
-    }
-    let n = unhex(&mut line[t..]);
-    let e = t + n;
-    let k = within(state.store, store);
-    let m = within(state.output, output);
-    said(
-        state,
-        two_hex(line, a, b, t, e, &mut store[..k], &mut output[..m], text),
-    )
-}
-
-fn answer(
-    line: &mut [u8],
-    store: &mut [u8],
-    output: &mut [u8],
-    text: &mut [u8],
-    state: State,
-) -> State {
-    let n = line.len();
-    let a = word_end(line, 0);
-    if a == n {
-        let k = within(state.store, store);
-        let m = within(state.output, output);
-        return said(state, one_word(line, &store[..k], &mut output[..m], text));
-    }
-    let b = word_end(line, a + 1);
-    if b == n {
-        return two_words(line, a, store, output, text, state);
-    }
-    let c = word_end(line, b + 1);
-    if c == n {
-        return three_words(line, a, b, store, output, text, state);
-    }
-    said(state, unknown(text))
-}
-
-fn say(text: &mut [u8], n: usize) -> bool {
-    let next = put(text, n, b'\n');
-    let end = within(next, text);
-    io::write_all(STDOUT_FILENO, &text[..end])
-}
-
-// The first `n` bytes of the buffer are the line, if it fitted.
-fn answered(
-    line: &mut [u8],
-    n: usize,
-    fits: bool,
-    store: &mut [u8],
-    output: &mut [u8],
-    text: &mut [u8],
-    state: State,
-) -> State {
-    if !fits {
-        return said(state, unknown(text));
-    }
-    let k = within(n, line);
-    answer(&mut line[..k], store, output, text, state)
-}
-
-// What goes on from line to line: whether there may be more of them, what is left of the chunk, and the bytes in use.
-struct Turn {
-    more: bool,
-    at: usize,
-    end: usize,
+// How many bytes of the store and of the output are in use.
+struct Sizes {
     store: usize,
     output: usize,
 }
 
-fn over() -> Turn {
-    Turn {
-        more: false,
-        at: 0,
-        end: 0,
-        store: 0,
-        output: 0,
+// ---- the driver's own bytes
+
+const FRESH: u8 = 0xee;
+
+const UNTOUCHED: u8 = 0xa5;
+
+fn fill(s: &mut [u8], b: u8) {
+    let mut i = 0;
+    while i < s.len() {
+        s[i] = b;
+        i += 1;
     }
 }
 
-// Reads a line and answers it.
-fn turn_one(
-    chunk: &mut [u8],
-    line: &mut [u8],
+fn buffer(n: u64, store: &mut [u8], sizes: Sizes) -> Sizes {
+    if n > store.len() as u64 {
+        say_unknown();
+        return sizes;
+    }
+    fill(store, FRESH);
+    say_ok();
+    Sizes {
+        store: n as usize,
+        output: sizes.output,
+    }
+}
+
+fn load(new: &[u8], store: &mut [u8], sizes: Sizes) -> Sizes {
+    if store.len() < new.len() {
+        say_unknown();
+        return sizes;
+    }
+    let n = bytes::copy(new, store);
+    say_ok();
+    Sizes {
+        store: n,
+        output: sizes.output,
+    }
+}
+
+fn poke(at: u64, new: &[u8], store: &mut [u8]) {
+    if at > store.len() as u64 {
+        say_unknown();
+        return;
+    }
+    let from = at as usize;
+    if store.len() - from < new.len() {
+        say_unknown();
+        return;
+    }
+    bytes::copy(new, &mut store[from..]);
+    say_ok();
+}
+
+fn room(n: u64, most: usize, sizes: Sizes) -> Sizes {
+    if n > most as u64 {
+        say_unknown();
+        return sizes;
+    }
+    say_ok();
+    Sizes {
+        store: sizes.store,
+        output: n as usize,
+    }
+}
+
+fn set_up(
+    which: Setup,
+    number: u64,
+    bytes: &[u8],
     store: &mut [u8],
-    output: &mut [u8],
-    text: &mut [u8],
-    t: Turn,
-) -> Turn {
-    let got = read_line(chunk, line, t.at, t.end);
-    if !got.any {
-        return over();
+    most: usize,
+    sizes: Sizes,
+) -> Sizes {
+    match which {
+        Setup::Buffer => buffer(number, store, sizes),
+        Setup::Load => load(bytes, store, sizes),
+        Setup::Poke => {
+            let n = within(sizes.store, store);
+            poke(number, bytes, &mut store[..n]);
+            sizes
+        }
+        Setup::Room => room(number, most, sizes),
     }
-    let state = State {
-        store: t.store,
-        output: t.output,
-        said: 0,
-    };
-    let after = answered(line, got.len, got.fits, store, output, text, state);
-    let more = say(text, after.said);
-    Turn {
-        more,
-        at: got.at,
-        end: got.end,
-        store: after.store,
-        output: after.output,
+}
+
+// ---- public calls
+
+fn change(which: Change, number: u64, a: &[u8], b: &[u8], store: &mut [u8]) -> usize {
+    match which {
+        Change::Create => register_map::create(store, number),
+        Change::Insert => register_map::insert(store, a, b),
+        Change::Modify => register_map::modify(store, a, b),
+        Change::Delete => register_map::delete(store, a),
     }
+}
+
+fn root(store: &[u8]) {
+    let r = register_map::root_hash(store);
+    let d = r.digest;
+    say_digest(r.number, d);
+}
+
+fn rebuild(witness: &[u8]) {
+    let r = register_map::rebuild(witness);
+    let d = r.digest;
+    say_digest(r.number, d);
+}
+
+fn hash(message: &[u8]) {
+    let r = register_map::hash(message);
+    let d = r.digest;
+    say_digest(r.number, d);
+}
+
+fn count(store: &[u8]) {
+    let r = register_map::count(store);
+    say_count(r.number, r.count);
+}
+
+fn empty(store: &[u8]) {
+    let r = register_map::is_empty(store);
+    say_whether(r.number, r.yes);
+}
+
+fn ask(which: Ask, bytes: &[u8], store: &[u8]) {
+    match which {
+        Ask::Get => say_found(register_map::get(store, bytes)),
+        Ask::First => say_found(register_map::first_entry(store)),
+        Ask::Next => say_found(register_map::next_entry(store, bytes)),
+        Ask::Count => count(store),
+        Ask::Empty => empty(store),
+        Ask::Root => root(store),
+        Ask::Rebuild => rebuild(bytes),
+        Ask::Hash => hash(bytes),
+        Ask::Store => say_bytes(store),
+        Ask::Sum => say_bytes(&sha256::digest(store)),
+    }
+}
+
+fn witness(which: Show, a: &[u8], b: &[u8], store: &[u8], output: &mut [u8]) -> Saved {
+    match which {
+        Show::Full => register_map::as_hash_tree(store, output),
+        Show::Keys => register_map::keys(store, output),
+        Show::Witness => register_map::witness(store, a, output),
+        Show::KeyRange => register_map::key_range(store, a, b, output),
+        Show::ValueRange => register_map::value_range(store, a, b, output),
+        Show::Prefix => register_map::keys_with_prefix(store, a, output),
+    }
+}
+
+// How many bytes from `from` on are no longer as they were.
+fn touched(output: &[u8], from: usize) -> usize {
+    let mut n: usize = 0;
+    let mut i = from;
+    while i < output.len() {
+        if output[i] != UNTOUCHED {
+            n += 1;
+        }
+        i += 1;
+    }
+    n
+}
+
+fn show(which: Show, a: &[u8], b: &[u8], store: &[u8], output: &mut [u8]) {
+    fill(output, UNTOUCHED);
+    let r = witness(which, a, b, store, output);
+    say_witness(r, output, touched(output, r.size));
+}
+
+// ---- lines
+
+// These bytes of a line, which has them.
+fn part(line: &[u8], at: Span) -> &[u8] {
+    let from = at.from;
+    let to = at.to;
+    if from <= to {
+        if to <= line.len() {
+            return &line[from..to];
+        }
+    }
+    let z = 0;
+    &line[..z]
+}
+
+// A call on the bytes that are in use.
+fn perform(call: Call, number: u64, a: &[u8], b: &[u8], store: &mut [u8], output: &mut [u8]) {
+    match call {
+        Call::Change(which) => say_number(change(which, number, a, b, store)),
+        Call::Ask(which) => ask(which, a, store),
+        Call::Show(which) => show(which, a, b, store, output),
+        _ => say_unknown(),
+    }
+}
+
+// Answers a line of `n` bytes.
+fn answer(line: &mut [u8], n: usize, store: &mut [u8], output: &mut [u8], sizes: Sizes) -> Sizes {
+    let end = within(n, line);
+    let x = asked_by(&mut line[..end]);
+    let call = x.call;
+    let a = part(line, x.a);
+    if let Call::Setup(which) = call {
+        return set_up(which, x.number, a, store, output.len(), sizes);
+    }
+    let b = part(line, x.b);
+    let k = within(sizes.store, store);
+    let m = within(sizes.output, output);
+    perform(call, x.number, a, b, &mut store[..k], &mut output[..m]);
+    sizes
 }
 
 // A loop has to end, and nothing says that the input does: it counts its turns down, from a number that no run uses up.
-pub fn run(
-    chunk: &mut [u8],
-    line: &mut [u8],
-    store: &mut [u8],
-    output: &mut [u8],
-    text: &mut [u8],
-) {
+pub fn run(chunk: &mut [u8], line: &mut [u8], store: &mut [u8], output: &mut [u8]) {
     let mut turns = u64::MAX;
-    let mut t = Turn {
-        more: true,
-        at: 0,
-        end: 0,
+    let mut at = 0;
+    let mut end = 0;
+    let mut sizes = Sizes {
         store: 0,
         output: 0,
     };
     while turns > 0 {
         turns -= 1;
-        t = turn_one(chunk, line, store, output, text, t);
-        if !t.more {
+        let got = read_line(chunk, line, at, end);
+        if !got.any {
             return;
         }
+        at = got.at;
+        end = got.end;
+        sizes = answer(line, got.len, store, output, sizes);
     }
 }

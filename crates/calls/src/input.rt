@@ -1,7 +1,8 @@
 // Standard input, a line at a time.
 use libc::STDIN_FILENO;
 
-// What was read: whether there was a line at all, whether the buffer had room for it, and its length; then what is left of the chunk.
+// What was read: whether there was a line at all, whether the buffer had room for it, and its length, or 0 for one without room: the
+// empty line too is none that a call has. Then what is left of the chunk.
 pub struct Line {
     pub any: bool,
     pub fits: bool,
@@ -86,11 +87,15 @@ pub fn read_line(chunk: &mut [u8], line: &mut [u8], from: usize, to: usize) -> L
 fn kept(line: &mut [u8], got: Line, b: u8) -> Line {
     let len = got.len;
     let mut more = got;
+    if !got.fits {
+        return more;
+    }
     if len < line.len() {
         line[len] = b;
         more.len = len + 1;
         return more;
     }
     more.fits = false;
+    more.len = 0;
     more
 }

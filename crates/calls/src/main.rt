@@ -5,8 +5,9 @@
 // Landed: every line of the base: buffer, load, poke, room, create, insert, modify, delete, get, first, next, count, empty, root,
 // full, keys, witness, krange, vrange, prefix, rebuild, hash, store, sum. None of the later requests.
 mod answers;
+mod asked;
 mod input;
-mod kinds;
+mod names;
 mod reply;
 mod words;
 
@@ -15,6 +16,5 @@ fn main() {
     let mut line = [0u8; 320_000];
     let mut store = [0u8; 153_608];
     let mut output = [0u8; 131_072];
-    let mut text = [0u8; 307_300];
-    answers::run(&mut chunk, &mut line, &mut store, &mut output, &mut text);
+    answers::run(&mut chunk, &mut line, &mut store, &mut output);
 }

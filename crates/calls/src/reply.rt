@@ -1,5 +1,8 @@
-// An answer's text, put byte after byte into a buffer. What would stand past its end is left out; the buffer is made large enough.
-
+// Lines of answer, on standard output.
+use io::write_all;
+use libc::STDOUT_FILENO;
+use register_map::Found;
+use witness::Saved;
 ghost use Rattle.io.specs.Counts.{Counts};
 
 // `n`, where the slice has that many bytes.
@@ -9,36 +12,20 @@ pub fn within(n: usize, s: &[u8]) -> usize
     if n <= s.len() { n } else { 0 }
 }
 
-// Puts a byte at the place, and answers the next place.
-pub fn put(text: &mut [u8], at: usize, b: u8) -> usize {
-    if at < text.len() {
-        text[at] = b;
-        return at + 1;
-    }
-    at
+// ---- parts of a line
+
+fn text(s: &[u8]) {
+    write_all(STDOUT_FILENO, s);
 }
 
-pub fn put_all(text: &mut [u8], at: usize, s: &[u8]) -> usize {
-    let mut next = at;
-    let mut i = 0;
-    while i < s.len() {
-        next = put(text, next, s[i]);
-        i += 1;
-    }
-    next
-}
-
-// A number in decimal.
-pub fn put_number(text: &mut [u8], at: usize, n: usize) -> usize {
-    let mut digits = [0u8; 20];
-    let k = io::decimal(n as u64, &mut digits);
-    put_all(text, at, &digits[..k])
+fn number(n: usize) {
+    io::print_decimal(STDOUT_FILENO, n as u64);
 }
 
 // A space and a number.
-pub fn put_next(text: &mut [u8], at: usize, n: usize) -> usize {
-    let next = put(text, at, b' ');
-    put_number(text, next, n)
+fn next(n: usize) {
+    text(b" ");
+    number(n);
 }
 
 fn digit(n: u8) -> u8 {
@@ -49,33 +36,89 @@ fn digit(n: u8) -> u8 {
 }
 
 // Bytes in hex; `-` if there are none.
-pub fn put_hex(text: &mut [u8], at: usize, s: &[u8]) -> usize {
+fn hex(s: &[u8]) {
     if s.len() == 0 {
-        return put(text, at, b'-');
+        text(b"-");
+        return;
     }
-    let mut next = at;
+    let mut piece = [0u8; 4096];
+    let mut at = 0;
     let mut i = 0;
     while i < s.len() {
-        next = put(text, next, digit(s[i] / 16));
-        next = put(text, next, digit(s[i] % 16));
+        piece[at] = digit(s[i] / 16);
+        piece[at + 1] = digit(s[i] % 16);
+        at += 2;
         i += 1;
+        if at > 4094 {
+            text(&piece);
+            at = 0;
+        }
     }
-    next
+    text(&piece[..at]);
 }
 
-// A space and a digest.
-pub fn put_digest(text: &mut [u8], at: usize, d: [u8; 32]) -> usize {
-    let next = put(text, at, b' ');
-    put_hex(text, next, &d)
+fn end() {
+    text(b"\n");
 }
 
-// ---- whole answers
+// ---- lines
 
-pub fn ok(text: &mut [u8]) -> usize {
-    put_all(text, 0, b"ok")
+pub fn say_ok() {
+    text(b"ok\n");
 }
 
 // A line that it does not know, bad hex, a number that does not fit.
-pub fn unknown(text: &mut [u8]) -> usize {
-    put(text, 0, b'?')
+pub fn say_unknown() {
+    text(b"?\n");
+}
+
+pub fn say_number(n: usize) {
+    number(n);
+    end();
+}
+
+pub fn say_count(n: usize, count: usize) {
+    number(n);
+    next(count);
+    end();
+}
+
+pub fn say_whether(n: usize, yes: bool) {
+    number(n);
+    if yes {
+        text(b" yes\n");
+        return;
+    }
+    text(b" no\n");
+}
+
+pub fn say_found(f: Found) {
+    number(f.number);
+    next(f.key_at);
+    next(f.key_length);
+    next(f.value_at);
+    next(f.value_length);
+    end();
+}
+
+pub fn say_bytes(s: &[u8]) {
+    hex(s);
+    end();
+}
+
+pub fn say_digest(n: usize, digest: [u8; 32]) {
+    number(n);
+    text(b" ");
+    say_bytes(&digest);
+}
+
+// A witness, and how many bytes past it are touched.
+pub fn say_witness(r: Saved, output: &[u8], touched: usize) {
+    number(r.number);
+    next(r.size);
+    text(b" ");
+    let size = within(r.size, output);
+    hex(&output[..size]);
+    next(touched);
+    end();
 }

@@ -27,6 +27,25 @@ pub fn is(word: &[u8], name: &[u8]) -> bool {
     }
 }
 
+// Which of these words it is, counted from 0; as many as they are, if it is none.
+pub fn place(word: &[u8], words: &[u8]) -> usize {
+    let n = words.len();
+    let mut i = 0;
+    let mut from = 0;
+    while from < n {
+        let to = word_end(words, from);
+        if is(word, &words[from..to]) {
+            return i;
+        }
+        i += 1;
+        if to == n {
+            return i;
+        }
+        from = to + 1;
+    }
+    i
+}
+
 // ---- hex
 
 // What a digit stands for, or 16.
@@ -126,20 +145,4 @@ pub fn decimal(word: &[u8]) -> Number {
         i += 1;
     }
     Number::Is(n)
-}
-
-pub enum Size {
-    Is(usize),
-    Bad,
-}
-
-// A number up to `most`.
-pub fn upto(word: &[u8], most: usize) -> Size {
-    let Number::Is(n) = decimal(word) else {
-        return Size::Bad;
-    };
-    if n <= most as u64 {
-        return Size::Is(n as usize);
-    }
-    Size::Bad
 }

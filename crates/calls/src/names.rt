@@ -1,0 +1,123 @@
+// The calls, parted by what they need of the driver, and the words that name them.
+use crate::words::place;
+
+// Sets the driver's own bytes; answers `ok`.
+pub enum Setup {
+    Buffer,
+    Load,
+    Poke,
+    Room,
+}
+
+// Changes the store.
+pub enum Change {
+    Create,
+    Insert,
+    Modify,
+    Delete,
+}
+
+// Reads the store, or no store at all.
+pub enum Ask {
+    Get,
+    First,
+    Next,
+    Count,
+    Empty,
+    Root,
+    Rebuild,
+    Hash,
+    Store,
+    Sum,
+}
+
+// Reads the store and writes a witness.
+pub enum Show {
+    Full,
+    Keys,
+    Witness,
+    KeyRange,
+    ValueRange,
+    Prefix,
+}
+
+pub enum Call {
+    Setup(Setup),
+    Change(Change),
+    Ask(Ask),
+    Show(Show),
+    Unknown,
+}
+
+// A line of this word alone.
+fn alone(name: &[u8]) -> Call {
+    match place(name, b"first count empty root store sum full keys") {
+        0 => Call::Ask(Ask::First),
+        1 => Call::Ask(Ask::Count),
+        2 => Call::Ask(Ask::Empty),
+        3 => Call::Ask(Ask::Root),
+        4 => Call::Ask(Ask::Store),
+        5 => Call::Ask(Ask::Sum),
+        6 => Call::Show(Show::Full),
+        7 => Call::Show(Show::Keys),
+        _ => Call::Unknown,
+    }
+}
+
+// This word and another.
+fn with_one(name: &[u8]) -> Call {
+    match place(
+        name,
+        b"buffer room load create delete get next rebuild hash witness prefix",
+    ) {
+        0 => Call::Setup(Setup::Buffer),
+        1 => Call::Setup(Setup::Room),
+        2 => Call::Setup(Setup::Load),
+        3 => Call::Change(Change::Create),
+        4 => Call::Change(Change::Delete),
+        5 => Call::Ask(Ask::Get),
+        6 => Call::Ask(Ask::Next),
+        7 => Call::Ask(Ask::Rebuild),
+        8 => Call::Ask(Ask::Hash),
+        9 => Call::Show(Show::Witness),
+        10 => Call::Show(Show::Prefix),
+        _ => Call::Unknown,
+    }
+}
+
+// This word and two more.
+fn with_two(name: &[u8]) -> Call {
+    match place(name, b"poke insert modify krange vrange") {
+        0 => Call::Setup(Setup::Poke),
+        1 => Call::Change(Change::Insert),
+        2 => Call::Change(Change::Modify),
+        3 => Call::Show(Show::KeyRange),
+        4 => Call::Show(Show::ValueRange),
+        _ => Call::Unknown,
+    }
+}
+
+// The call that a line of so many words names by its first.
+pub fn named(name: &[u8], words: usize) -> Call {
+    match words {
+        1 => alone(name),
+        2 => with_one(name),
+        3 => with_two(name),
+        _ => Call::Unknown,
+    }
+}
+
+// Whether the word after the name is a number, and not bytes.
+pub fn takes_number(call: Call) -> bool {
+    match call {
+        Call::Setup(which) => match which {
+            Setup::Load => false,
+            _ => true,
+        },
+        Call::Change(which) => match which {
+            Change::Create => true,
+            _ => false,
+        },
+        _ => false,
+    }
+}

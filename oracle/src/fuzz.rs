@@ -1,0 +1,210 @@
+//! Scripts for `calls` in which any bytes may arrive: stores random or damaged, keys and values of every length, outputs about the
+//! witness's length, witnesses random or damaged, lines that are none. After each call stands `sum`, so that a change shows.
+use crate::calls::hex;
+use crate::hash_tree::{empty, fork, labeled, leaf, pruned, HashTree, HashTreeNode};
+use crate::lies::damaged;
+use crate::rb_tree::AsHashTree;
+use crate::script::Random;
+use crate::store::Store;
+
+/// Of every length from 0 to 80; one in 200 far above.
+fn any_bytes(r: &mut Random) -> Vec<u8> {
+    let n = if r.chance(200) { r.below(70_000) } else { r.below(81) };
+    let letters = [2, 256][r.below(2)];
+    (0..n).map(|_| r.below(letters) as u8).collect()
+}
+
+/// A key of the store, one beside it, or any bytes.
+fn key(r: &mut Random, store: &Store) -> Vec<u8> {
+    let keys: Vec<&Vec<u8>> = store.slots.keys().collect();
+    if keys.is_empty() || r.chance(3) {
+        return any_bytes(r);
+    }
+    let mut key = keys[r.below(keys.len())].clone();
+    match r.below(6) {
+        0 => key.push(r.below(256) as u8),
+        1 => {
+            key.pop();
+        }
+        _ => (),
+    }
+    key
+}
+
+/// A sound store that a random history leaves.
+fn sound(r: &mut Random) -> Store {
+    let capacity = match r.below(60) {
+        0 => 1024,
+        1 => 60,
+        _ => 1 + r.below(9),
+    };
+    let mut store = Store::fresh(capacity);
+    for _ in 0..r.below(3 * capacity.min(40) + 1) {
+        let (n, letters) = (r.below(49), [2, 256][r.below(2)]);
+        let key: Vec<u8> = (0..n).map(|_| r.below(letters) as u8).collect();
+        let n = r.below(65);
+        store.insert(&key, &r.bytes(n));
+        if r.chance(3) {
+            if let Some(k) = store.slots.keys().nth(r.below(capacity)).cloned() {
+                store.delete(&k);
+            }
+        }
+    }
+    store
+}
+
+/// A tree nested so deep, the outermost record counted.
+fn nested(r: &mut Random, depth: usize) -> HashTree {
+    let mut tree = if r.chance(2) { empty() } else { leaf(r.bytes(3)) };
+    for _ in 1..depth {
+        tree = match r.below(3) {
+            0 => labeled(r.bytes(2), tree),
+            1 => fork(tree, empty()),
+            _ => fork(pruned([7; 32]), tree),
+        };
+    }
+    tree
+}
+
+/// A record of any kind and length, with as many bytes or fewer or more.
+fn record(r: &mut Random) -> Vec<u8> {
+    let length = if r.chance(8) { r.below(8192) } else { r.below(70) };
+    let mut bytes = ((r.below(8) << 13 | length) as u16).to_be_bytes().to_vec();
+    let n = [length, length, length + r.below(3), length.saturating_sub(1 + r.below(3))][r.below(4)];
+    bytes.extend(r.bytes(n));
+    bytes
+}
+
+fn turn_bit(r: &mut Random, bytes: &mut [u8]) {
+    if !bytes.is_empty() {
+        let at = r.below(bytes.len());
+        bytes[at] ^= 1 << r.below(8);
+    }
+}
+
+/// A witness to rebuild: right, damaged, cut, with more after it, about 64 deep, or made of any records.
+fn witness(r: &mut Random, store: &Store) -> Vec<u8> {
+    let node = |tree: HashTree| {
+        let mut out = vec![];
+        let root: HashTreeNode = tree.root;
+        root.write(&mut out);
+        out
+    };
+    let mut bytes = match r.below(5) {
+        0 => {
+            let depth = [1, 2, 63, 64, 65, 66, 200][r.below(7)];
+            node(nested(r, depth))
+        }
+        1 => (0..1 + r.below(5)).flat_map(|_| record(r)).collect(),
+        2 => any_bytes(r),
+        3 => node(store.map.keys()),
+        _ => node(store.map.as_hash_tree()),
+    };
+    match r.below(6) {
+        0 => turn_bit(r, &mut bytes),
+        1 => bytes.truncate(r.below(bytes.len() + 1)),
+        2 => bytes.extend(record(r)),
+        _ => (),
+    }
+    bytes
+}
+
+/// A witness call, and an output about as long as what a sound store answers.
+fn shown(r: &mut Random, store: &Store) -> [String; 2] {
+    let (mut a, mut b) = (key(r, store), key(r, store));
+    if a > b && !r.chance(6) {
+        (a, b) = (b, a);
+    }
+    let lawful = a.len() <= 48 && b.len() <= 48 && a <= b;
+    let call = r.below(6);
+    let tree = match call {
+        0 => store.map.as_hash_tree(),
+        1 => store.map.keys(),
+        2 => store.map.witness(&a),
+        3 if lawful => store.map.key_range(&a, &b),
+        4 if lawful => store.map.value_range(&a, &b),
+        3 | 4 => store.map.keys(),
+        _ => store.map.keys_with_prefix(&a),
+    };
+    let mut out = vec![];
+    tree.root.write(&mut out);
+    let n = out.len();
+    let room = [0, r.below(n + 1), n - 1, n, n, n, n + 1, n + r.below(300), 131_072][r.below(9)];
+    let line = match call {
+        0 => "full".into(),
+        1 => "keys".into(),
+        2 => format!("witness {}", hex(&a)),
+        3 => format!("krange {} {}", hex(&a), hex(&b)),
+        4 => format!("vrange {} {}", hex(&a), hex(&b)),
+        _ => format!("prefix {}", hex(&a)),
+    };
+    [format!("room {}", room.min(131_072)), line]
+}
+
+/// A line that is none, or one that breaks a rule of its words.
+fn broken(r: &mut Random) -> Vec<u8> {
+    let words = ["insert", "load", "poke", "room", "create", "get", "krange", "sum", "rebuild", "61", "6", "-", "", "zz", "6G", "99999999999999999999", "first"];
+    match r.below(8) {
+        0 => {
+            let n = r.below(40);
+            r.bytes(n).into_iter().filter(|b| *b != b'\n').collect()
+        }
+        1 => b"insert 61  62".to_vec(),
+        2 => b"create 18446744073709551616".to_vec(),
+        3 => b"poke 153609 61".to_vec(),
+        4 if r.chance(40) => vec![b'6'; 320_000 + r.below(3)],
+        _ => {
+            let some: Vec<&str> = (0..r.below(6)).map(|_| words[r.below(words.len())]).collect();
+            some.join(" ").into_bytes()
+        }
+    }
+}
+
+/// A call on whatever the store is.
+fn call(r: &mut Random, store: &Store) -> String {
+    let k = hex(&key(r, store));
+    match r.below(13) {
+        0 | 1 | 2 => format!("insert {k} {}", hex(&any_bytes(r))),
+        3 => format!("modify {k} {}", hex(&any_bytes(r))),
+        4 | 5 => format!("delete {k}"),
+        6 => format!("get {k}"),
+        7 => format!("next {k}"),
+        8 => "first".into(),
+        9 => "count".into(),
+        10 => "empty".into(),
+        11 => "root".into(),
+        _ => {
+            let capacities = [0, 1, 2, store.capacity, store.capacity, 1024, 1025, 2047, usize::MAX, r.below(1 << 30)];
+            format!("create {}", capacities[r.below(capacities.len())])
+        }
+    }
+}
+
+fn message(r: &mut Random) -> Vec<u8> {
+    let n = if r.chance(50) { [65_535, 65_536, 65_537, 100_000][r.below(4)] } else { r.below(200) };
+    r.bytes(n)
+}
+
+/// A script of about so many lines.
+pub fn script(seed: u64, lines: usize) -> Vec<Vec<u8>> {
+    let mut r = Random::new(seed);
+    let mut out: Vec<Vec<u8>> = vec![];
+    while out.len() < lines {
+        let store = sound(&mut r);
+        let bytes = damaged(&mut r, store.bytes());
+        out.push(format!("load {}", hex(&bytes)).into_bytes());
+        out.push("sum".into());
+        let calls = if bytes.len() > 20_000 { 4 } else { 8 };
+        for _ in 0..calls {
+            match r.below(20) {
+                0..=8 => out.push(call(&mut r, &store).into_bytes()),
+                9..=14 => out.extend(shown(&mut r, &store).map(String::into_bytes)),
+                15 | 16 => out.push(format!("rebuild {}", hex(&witness(&mut r, &store))).into_bytes()),
+                17 => out.push(format!("hash {}", hex(&message(&mut r))).into_bytes()),
+                _ => out.push(broken(&mut r)),
+            }
+            out.push("sum".into());
+        }
+    }
+    out
+}
