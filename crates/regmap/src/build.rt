@@ -12,6 +12,7 @@ use text::hex::Few;
 use text::hex::Number;
 use text::print::say;
 use text::print::say_number;
+use text::print::say3;
 use text::words::find;
 use text::words::has;
 use text::words::is;
@@ -84,30 +85,19 @@ fn register_of(line: &[u8]) -> Register {
     Register { fault, name, value }
 }
 
+// What is wrong and what to do, from NO_VALUE on. A zero byte parts them.
+const FAULTS: [u8; 332] = *b"a name and no value: write NAME HEX, or NAME - for an empty value.\0\
+more than a name and a value: write NAME HEX; a comment begins with #.\0\
+after hex: come two hex digits for each byte of the name.\0\
+the value is no hex: write two digits for each byte, or - for none.\0\
+this name stood above with another value: keep one of the two lines.";
+
 fn say_fault(err: i32, fault: usize) {
-    match fault {
-        NO_VALUE => say(
-            err,
-            b"a name and no value: write NAME HEX, or NAME - for an empty value.\n",
-        ),
-        MORE_WORDS => say(
-            err,
-            b"more than a name and a value: write NAME HEX; a comment begins with #.\n",
-        ),
-        BAD_NAME => say(
-            err,
-            b"after hex: come two hex digits for each byte of the name.\n",
-        ),
-        BAD_VALUE => say(
-            err,
-            b"the value is no hex: write two digits for each byte, or - for none.\n",
-        ),
-        TWICE => say(
-            err,
-            b"this name stood above with another value: keep one of the two lines.\n",
-        ),
-        _ => meaning(err, fault),
+    if fault < NO_VALUE {
+        return meaning(err, fault);
     }
+    say(err, word(&FAULTS, fault - NO_VALUE));
+    say(err, b"\n");
 }
 
 // ---- the store
@@ -232,22 +222,11 @@ fn refuse_line(map: &[u8], stop: Stop, err: i32) -> usize {
     if stop.line == 0 {
         return refuse(err, stop.fault);
     }
-    say(err, b"regmap: ");
-    say(err, map);
-    say(err, b":");
+    say3(err, b"regmap: ", map, b":");
     say_number(err, stop.line);
     say(err, b": ");
     say_fault(err, stop.fault);
     REFUSED
-}
-
-fn made(line: &[u8], text: &[u8], store: &mut [u8], capacity: usize, err: i32) -> usize {
-    let n = within(size(capacity), store);
-    let stop = filled(text, &mut store[..n], capacity);
-    if stop.fault != TAKEN {
-        return refuse_line(word(line, 1), stop, err);
-    }
-    keep(word(line, 2), part(store, 0, n), err)
 }
 
 // 1 for a line that holds something, 0 for a blank or a comment.
@@ -279,9 +258,22 @@ fn lawful(n: usize) -> usize {
     if n < 1024 { n } else { 1024 }
 }
 
-// Just large enough: as many as there are names. A name that stands twice leaves a slot, and then the store is made anew.
-fn capacity_of(text: &[u8], store: &mut [u8]) -> usize {
-    let most = lines_of(text);
+// Writes the store, if nothing stopped the reading of its map.
+fn finish(line: &[u8], stop: Stop, store: &[u8], err: i32) -> usize {
+    if stop.fault != TAKEN {
+        return refuse_line(word(line, 1), stop, err);
+    }
+    keep(word(line, 2), store, err)
+}
+
+fn made(line: &[u8], text: &[u8], store: &mut [u8], capacity: usize, err: i32) -> usize {
+    let n = within(size(capacity), store);
+    let stop = filled(text, &mut store[..n], capacity);
+    finish(line, stop, part(store, 0, n), err)
+}
+
+// The capacity that fits: as many as there are names. A store with a slot for each line is made to count them.
+fn capacity_of(text: &[u8], store: &mut [u8], most: usize) -> usize {
     let n = within(size(most), store);
     let stop = filled(text, &mut store[..n], most);
     if stop.fault != TAKEN {
@@ -294,7 +286,7 @@ fn capacity_of(text: &[u8], store: &mut [u8]) -> usize {
 // The map's blanks are zeros by now.
 pub fn build(line: &[u8], text: &[u8], store: &mut [u8], err: i32) -> usize {
     if has(line, 3) {
-        let capacity = capacity_of(text, store);
+        let capacity = capacity_of(text, store, lines_of(text));
         return made(line, text, store, capacity, err);
     }
     let Number::Is(capacity) = hex::decimal(word(line, 4)) else {

@@ -2,7 +2,9 @@
 use crate::says::TROUBLE;
 use text::print::say;
 use text::print::say_number;
+use text::print::say3;
 use text::words::part;
+use text::words::word;
 ghost use Prim.Native.Nat.{_≤_};
 ghost use lib.ListN.{length};
 
@@ -12,31 +14,28 @@ pub enum Loaded {
     No,
 }
 
-fn reason(err: i32, error: i32) {
+const REASONS: [u8; 212] =
+    *b"the system refused it\0there is no such file or folder\0it is not permitted\0it is a folder\0\
+a folder of its path is a file\0the disk is full\0\
+its .new is there: another run is at work, or was cut off. Remove that file";
+
+fn reason(error: i32) -> usize {
     match error {
-        libc::ENOENT => say(err, b"there is no such file or folder"),
-        libc::EACCES => say(err, b"it is not permitted"),
-        libc::EISDIR => say(err, b"it is a folder"),
-        libc::ENOTDIR => say(err, b"a folder of its path is a file"),
-        libc::ENOSPC => say(err, b"the disk is full"),
-        libc::EEXIST => say(
-            err,
-            b"its .new is there: another run is at work, or was cut off. Remove that file",
-        ),
-        _ => say(err, b"the system refused it"),
+        libc::ENOENT => 1,
+        libc::EACCES => 2,
+        libc::EISDIR => 3,
+        libc::ENOTDIR => 4,
+        libc::ENOSPC => 5,
+        libc::EEXIST => 6,
+        _ => 0,
     }
 }
 
 // Says why the last call failed.
-fn trouble(err: i32, what: &[u8], path: &[u8]) -> usize {
-    let error = os::errno();
-    say(err, b"regmap: ");
-    say(err, what);
-    say(err, path);
-    say(err, b": ");
-    reason(err, error);
-    say(err, b".\n");
-    TROUBLE
+fn trouble(err: i32, what: &[u8], path: &[u8]) {
+    let k = reason(os::errno());
+    say3(err, b"regmap: can't ", what, path);
+    say3(err, b": ", word(&REASONS, k), b".\n");
 }
 
 // Reads until the file ends or the buffer is full: how many bytes, or nothing where a read failed.
@@ -56,14 +55,20 @@ fn read_all(fd: i32, buf: &mut [u8]) -> Loaded {
     Loaded::Whole(n)
 }
 
+fn too_long(err: i32, path: &[u8], n: usize) {
+    say3(err, b"regmap: ", path, b" is too long: fewer than ");
+    say_number(err, n);
+    say(err, b" bytes are read.\n");
+}
+
 pub fn load(path: &[u8], buf: &mut [u8], err: i32) -> Loaded {
     let fd = os::open_read(path);
     if fd < 0 {
-        trouble(err, b"can't read ", path);
+        trouble(err, b"read ", path);
         return Loaded::No;
     }
     let Loaded::Whole(n) = read_all(fd, buf) else {
-        trouble(err, b"can't read ", path);
+        trouble(err, b"read ", path);
         libc::close(fd);
         return Loaded::No;
     };
@@ -71,11 +76,7 @@ pub fn load(path: &[u8], buf: &mut [u8], err: i32) -> Loaded {
     if n < buf.len() {
         return Loaded::Whole(n);
     }
-    say(err, b"regmap: ");
-    say(err, path);
-    say(err, b" is too long: at most ");
-    say_number(err, n);
-    say(err, b" bytes are read.\n");
+    too_long(err, path, n);
     Loaded::No
 }
 
@@ -142,7 +143,7 @@ pub fn save(path: &[u8], bytes: &[u8], err: i32) -> usize {
 // Says why, and leaves nothing behind, unless the `.new` was there before.
 fn unsaved(new: &[u8], path: &[u8], err: i32) -> usize {
     let error = os::errno();
-    trouble(err, b"can't write ", path);
+    trouble(err, b"write ", path);
     if error != libc::EEXIST {
         os::unlink(new);
     }

@@ -1,6 +1,7 @@
 // What is said to a person, and the exit statuses.
 use text::print::say;
 use text::print::say_number;
+use text::print::say3;
 use text::words::word;
 
 pub const DONE: usize = 0;
@@ -71,9 +72,7 @@ pub fn refuse(err: i32, number: usize) -> usize {
 
 // A word that is no name, no value or no digest.
 pub fn bad_word(err: i32, word: &[u8], what: &[u8]) {
-    say(err, b"regmap: ");
-    say(err, word);
-    say(err, what);
+    say3(err, b"regmap: ", word, what);
 }
 
 // "12 registers", "1 register".

@@ -43,9 +43,17 @@ fn say_status(status: usize) {
     say(OUT, b"\n");
 }
 
-fn turn(line: &mut [u8], store: &mut [u8], buf: &mut [u8]) -> usize {
+// The line as it stands; `> ` before it, if it is a command.
+fn say_line(line: &[u8]) {
+    if !(line.len() == 0 || is(part(line, 0, 1), b"#")) {
+        say(OUT, b"> ");
+    }
     say(OUT, line);
     say(OUT, b"\n");
+}
+
+fn turn(line: &mut [u8], store: &mut [u8], buf: &mut [u8]) -> usize {
+    say_line(line);
     blanked(line);
     if is_empty(line) {
         return DONE;

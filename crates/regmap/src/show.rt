@@ -77,8 +77,7 @@ fn say_bytes(kind: usize, bytes: &[u8], labeled: bool) {
     match kind {
         LABELED => say_name(OUT, bytes),
         LEAF => say_leaf(bytes),
-        PRUNED => say_hidden(bytes, labeled),
-        _ => say(OUT, b""),
+        _ => say_hidden(bytes, labeled),
     }
 }
 
@@ -91,8 +90,10 @@ fn say_record(seen: Seen, bytes: &[u8]) {
         say(OUT, part(&SPACES, 0, deep * 2));
     }
     say_kind(seen.kind);
-    say(OUT, b" ");
-    say_bytes(seen.kind, bytes, seen.labeled);
+    if LABELED <= seen.kind {
+        say(OUT, b" ");
+        say_bytes(seen.kind, bytes, seen.labeled);
+    }
     say(OUT, b"\n");
 }
 
@@ -117,11 +118,11 @@ fn draw_label(name: &[u8]) {
 }
 
 fn draw_bytes(kind: usize, bytes: &[u8]) {
+    say(OUT, b"\\n");
     match kind {
         LABELED => draw_label(bytes),
         LEAF => say_hex(OUT, bytes),
-        PRUNED => say_hex(OUT, part(bytes, 0, 4)),
-        _ => say(OUT, b""),
+        _ => say_hex(OUT, part(bytes, 0, 4)),
     }
 }
 
@@ -149,8 +150,9 @@ fn draw_record(seen: Seen, bytes: &[u8]) {
     say_number(OUT, seen.at);
     say(OUT, b" [label=\"");
     say_kind(seen.kind);
-    say(OUT, b"\\n");
-    draw_bytes(seen.kind, bytes);
+    if LABELED <= seen.kind {
+        draw_bytes(seen.kind, bytes);
+    }
     draw_style(seen.kind);
     draw_edge(seen.parent, seen.at);
 }

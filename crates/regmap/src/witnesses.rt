@@ -9,6 +9,7 @@ use text::hex;
 use text::print::say;
 use text::print::say_hex;
 use text::print::say_number;
+use text::print::say3;
 use text::words::has;
 use text::words::is;
 use text::words::part;
@@ -79,9 +80,7 @@ fn compare(path: &[u8], made: &[u8], wanted: &[u8], err: i32) -> usize {
         say(OUT, b" matches: it rebuilds to that root digest.\n");
         return DONE;
     }
-    say(err, b"regmap: ");
-    say(err, path);
-    say(err, b" does not match: it rebuilds to ");
+    say3(err, b"regmap: ", path, b" does not match: it rebuilds to ");
     say_hex(err, made);
     say(err, b". It is no witness of that release: do not use it.\n");
     REFUSED

@@ -6,6 +6,13 @@ pub fn say(to: i32, s: &[u8]) {
     io::write_all(to, s);
 }
 
+// Three texts, one after the other.
+pub fn say3(to: i32, a: &[u8], b: &[u8], c: &[u8]) {
+    say(to, a);
+    say(to, b);
+    say(to, c);
+}
+
 pub fn say_number(to: i32, n: usize) {
     io::print_decimal(to, n as u64);
 }
