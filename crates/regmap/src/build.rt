@@ -272,22 +272,31 @@ fn made(line: &[u8], text: &[u8], store: &mut [u8], capacity: usize, err: i32) -
     finish(line, stop, part(store, 0, n), err)
 }
 
-// The capacity that fits: as many as there are names. A store with a slot for each line is made to count them.
-fn capacity_of(text: &[u8], store: &mut [u8], most: usize) -> usize {
-    let n = within(size(most), store);
-    let stop = filled(text, &mut store[..n], most);
+// How many names there are, if every line was taken.
+fn names_in(stop: Stop, store: &[u8], lines: usize) -> usize {
     if stop.fault != TAKEN {
-        return most;
+        return lines;
     }
-    let r = register_map::count(part(store, 0, n));
+    let r = register_map::count(store);
     lawful(r.count)
+}
+
+// With a slot for each line; if a name stood twice, made anew with one for each name.
+fn fitted(line: &[u8], text: &[u8], store: &mut [u8], err: i32) -> usize {
+    let lines = lines_of(text);
+    let n = within(size(lines), store);
+    let stop = filled(text, &mut store[..n], lines);
+    let names = names_in(stop, part(store, 0, n), lines);
+    if names < lines {
+        return made(line, text, store, names, err);
+    }
+    finish(line, stop, part(store, 0, n), err)
 }
 
 // The map's blanks are zeros by now.
 pub fn build(line: &[u8], text: &[u8], store: &mut [u8], err: i32) -> usize {
     if has(line, 3) {
-        let capacity = capacity_of(text, store, lines_of(text));
-        return made(line, text, store, capacity, err);
+        return fitted(line, text, store, err);
     }
     let Number::Is(capacity) = hex::decimal(word(line, 4)) else {
         return refuse(err, 8);

@@ -45,15 +45,28 @@ const WORDS: [usize; 14] = [2, 3, 2, 4, 3, 4, 4, 3, 5, 3, 2, 2, 3, 0];
 
 const NAME_AT: [usize; 14] = [0, 2, 0, 2, 2, 3, 3, 0, 3, 0, 0, 0, 0, 0];
 
-// With `--values` or `--capacity N` at its end.
-fn is_longer(kind: usize, line: &[u8]) -> bool {
-    if kind == RANGE {
-        return has(line, 6) && is(word(line, 5), b"--values");
+// Whether the line has `n` words, and the option stands at `k`.
+fn has_option(line: &[u8], n: usize, k: usize, option: &[u8]) -> bool {
+    if !has(line, n) {
+        return false;
     }
-    if kind == BUILD {
-        return has(line, 5) && is(word(line, 3), b"--capacity");
+    is(word(line, k), option)
+}
+
+fn fits(kind: usize, line: &[u8]) -> bool
+    requires { ⌜ kind ≤ 13 ⌝ }
+{
+    if kind == NONE {
+        return false;
     }
-    false
+    if has(line, WORDS[kind]) {
+        return true;
+    }
+    match kind {
+        RANGE => has_option(line, 6, 5, b"--values"),
+        BUILD => has_option(line, 5, 3, b"--capacity"),
+        _ => false,
+    }
 }
 
 fn name_ok(line: &[u8], k: usize, err: i32) -> bool {
@@ -110,11 +123,14 @@ fn rest_ok(kind: usize, line: &[u8], err: i32) -> bool {
 // The number of the line's command; NONE, if there is none or its words are wrong, and that was said.
 pub fn kind_of(line: &[u8], err: i32) -> usize {
     let kind = index(&NAMES, word(line, 0), NONE);
-    if !(has(line, WORDS[kind]) || is_longer(kind, line)) {
+    if !fits(kind, line) {
         usage(err);
         return NONE;
     }
-    if !(name_ok(line, NAME_AT[kind], err) && rest_ok(kind, line, err)) {
+    if !name_ok(line, NAME_AT[kind], err) {
+        return NONE;
+    }
+    if !rest_ok(kind, line, err) {
         return NONE;
     }
     kind

@@ -14,29 +14,29 @@ pub const TROUBLE: usize = 2;
 
 pub const OUT: i32 = 1;
 
-const USAGE: [u8; 1406] = *b"regmap: register maps, and witnesses of them
+const USAGE: [u8; 1414] =
+    *b"regmap: a map of registers as a store with a root digest, and witnesses of it
 
-  regmap build MAP STORE [--capacity N]   a store from a map: NAME HEX, a line each
-  regmap list STORE                       its registers, as a map again
-  regmap get STORE NAME                   one register's bytes
-  regmap root STORE                       the root digest
-  regmap set STORE NAME HEX               a new register, or new bytes for one
-  regmap unset STORE NAME                 takes a register out
-  regmap witness STORE OUT NAME           shows one register, or that there is none
-  regmap range STORE OUT FIRST LAST [--values]   shows the names from FIRST to LAST
-  regmap prefix STORE OUT PREFIX          shows the names that begin with PREFIX
-  regmap full STORE OUT                   shows everything
-  regmap check WITNESS DIGEST             does it rebuild to this root digest?
-  regmap read WITNESS                     every record, for a person
-  regmap dot WITNESS                      the same as a picture for Graphviz
-  regmap run FILE                         the commands of a file, a line each
+               regmap ..                       for example, regmap ..
+  a store      build MAP STORE [--capacity N]  build examples/uart.map u.store
+               list STORE                      list u.store
+               get STORE NAME                  get u.store 008.CTRL
+               root STORE                      root u.store
+  a change     set STORE NAME HEX              set u.store 008.CTRL 0008
+               unset STORE NAME                unset u.store 008.CTRL
+  a witness    witness STORE OUT NAME          witness u.store w 008.CTRL
+               range STORE OUT FIRST LAST      range u.store w 008 010
+                 [--values]                    range u.store w 008 010 --values
+               prefix STORE OUT PREFIX         prefix u.store w 00
+               full STORE OUT                  full u.store w
+  is it right? check WITNESS DIGEST            check w $(regmap root u.store)
+  shown        read WITNESS                    read w
+               dot WITNESS                     dot w | dot -Tsvg >w.svg
+  from a file  run FILE                        run examples/tour.run
 
-for example
-  regmap build examples/uart.map uart.store && regmap root uart.store
-  regmap witness uart.store ctrl.witness UART_CTRL && regmap read ctrl.witness
-
-A name that is no printable word is hex: and its bytes in hex. HEX is two digits a
-byte, - for no byte. Status: 0 done, 1 refused or no match, 2 wrong words or files.
+MAP has a register a line: NAME HEX. HEX is two digits a byte, - for none.
+A name that is no printable word is hex: and its bytes in hex. Status: 0 done,
+1 refused or no match, 2 wrong words or files. docs/REGMAP.md says more.
 ";
 
 pub fn usage(err: i32) -> usize {

@@ -126,12 +126,19 @@ fn draw_bytes(kind: usize, bytes: &[u8]) {
     }
 }
 
-fn draw_style(kind: usize) {
-    match kind {
-        LABELED => say(OUT, b"\", style=bold];\n"),
-        PRUNED => say(OUT, b"..\\nhidden\", style=filled, fillcolor=gray80];\n"),
-        _ => say(OUT, b"\"];\n"),
+fn draw_style(kind: usize, labeled: bool) {
+    if kind == LABELED {
+        return say(OUT, b"\", style=bold];\n");
     }
+    if kind != PRUNED {
+        return say(OUT, b"\"];\n");
+    }
+    if labeled {
+        say(OUT, b"..\\nits value, ");
+    } else {
+        say(OUT, b"..\\nregisters, ");
+    }
+    say(OUT, b"hidden\", style=filled, fillcolor=gray80];\n");
 }
 
 fn draw_edge(from: usize, to: usize) {
@@ -153,7 +160,7 @@ fn draw_record(seen: Seen, bytes: &[u8]) {
     if LABELED <= seen.kind {
         draw_bytes(seen.kind, bytes);
     }
-    draw_style(seen.kind);
+    draw_style(seen.kind, seen.labeled);
     draw_edge(seen.parent, seen.at);
 }
 
