@@ -21,7 +21,6 @@ use text::words::piece;
 use text::words::within;
 use text::words::word;
 ghost use Prim.Native.Nat.{_≤_};
-ghost use lib.ListN.{length};
 ghost use Rattle.store.specs.Sound.{Sound};
 ghost use Rattle.rb_tree.specs.Stores.{Asked};
 

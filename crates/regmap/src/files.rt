@@ -5,8 +5,6 @@ use text::print::say_number;
 use text::print::say3;
 use text::words::part;
 use text::words::word;
-ghost use Prim.Native.Nat.{_≤_};
-ghost use lib.ListN.{length};
 
 // How many bytes the file has, all of them at the front of the buffer; or nothing, and the reason was said.
 pub enum Loaded {

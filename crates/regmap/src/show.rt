@@ -19,7 +19,7 @@ use text::words::word;
 
 const SPACES: [u8; 128] = [b' '; 128];
 
-// A record's place, depth and kind, and whether it stands under a label; or, in a picture, its parent's place.
+// A record's place, depth and kind, its parent's place, and whether it stands under a label.
 struct Seen {
     at: usize,
     depth: usize,
@@ -166,7 +166,7 @@ fn draw_record(seen: Seen, bytes: &[u8]) {
 
 // ---- the walk
 
-// What stays the same, or is known, on the way down: whether a picture is drawn, and the record above.
+// What is known on the way down: whether a picture is drawn, and the record above.
 struct Way {
     picture: bool,
     parent: usize,

@@ -2,60 +2,44 @@ use Rattle.regmap.proofs.Keeping.{stays-sound}
 use borrow.Author.Needs.{needs}
 use Rattle.regmap.proofs.build.put.Statement.{statement}
 use Rattle.regmap.proofs.build.put.Tie as tie
-use Rattle.regmap.proofs.build.put.Reads as reads
-use Rattle.regmap.proofs.build.put.Lts as lts
-use Rattle.rb_tree.proofs.insert.Reads as insert-reads
-use Rattle.regmap.proofs.build.again.Reads as again-reads
-use Rattle.search.proofs.get_place.Reads as get-place-reads
 
--- src/build.rt:120:9
 get-place-requires : tie.Need-get-place-requires
 get-place-requires c κs = search needs
 
 enum-told : tie.Need-enum-told
 enum-told c = search needs
 
--- src/build.rt:122:22
 enum-told-2 : tie.Need-enum-told-2
 enum-told-2 c = search needs
 
--- src/build.rt:122:9
 again-requires : tie.Need-again-requires
 again-requires c κs = search needs
 
--- src/build.rt:122:9
 same-length : tie.Need-same-length
 same-length c = search needs
 
--- src/build.rt:122:9
 returns : tie.Need-returns
 returns c = search needs
 
--- src/build.rt:124:26
 insert-requires : tie.Need-insert-requires
 insert-requires c κs = search needs
 
 enum-told-3 : tie.Need-enum-told-3
 enum-told-3 c = search needs
 
--- src/build.rt:125:9
 enum-told-4 : tie.Need-enum-told-4
 enum-told-4 c = search needs
 
--- src/build.rt:125:9
 same-length-2 : tie.Need-same-length-2
 same-length-2 c = search needs
 
--- src/build.rt:125:9
 returns-2 : tie.Need-returns-2
 returns-2 c =
     stays-sound _ _ (c .before .before .before .before .before .before .before .before .before .before .before .before .before .pre .sound) (c .before .before .before .before .insert .result) (c .before .before .before .before .insert .ensures (c .before .before .before .before .before .before .before .before .before .before .before .before .before .pre .sound .0) (c .before .before .before .before .before .before .before .before .before .before .before .before .before .pre .sound .1))
 
--- src/build.rt:116:1
 same-length-3 : tie.Need-same-length-3
 same-length-3 c = search needs
 
--- src/build.rt:116:1
 returns-3 : tie.Need-returns-3
 returns-3 c =
     stays-sound _ _ (c .before .before .before .before .before .before .before .before .before .before .before .before .before .pre .sound) (c .before .before .before .before .insert .result) (c .before .before .before .before .insert .ensures (c .before .before .before .before .before .before .before .before .before .before .before .before .before .pre .sound .0) (c .before .before .before .before .before .before .before .before .before .before .before .before .before .pre .sound .1))

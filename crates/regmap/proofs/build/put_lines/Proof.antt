@@ -1,16 +1,10 @@
 use Rattle.store.specs.Sound.{Sound}
-use mathlib.Core.Path.{_≡_, refl}
-use native.Mathlib.Omega.{arith}
+use mathlib.Core.Path.{_≡_}
 use Prim.Native.Nat.{_≤_, _-_, _+_}
-use lib.ListN.{length, length-set}
+use lib.ListN.{length}
 use borrow.Author.Needs.{needs}
 use Rattle.regmap.proofs.build.put_lines.Statement.{statement}
 use Rattle.regmap.proofs.build.put_lines.Tie as tie
-use Rattle.regmap.proofs.build.put_lines.Reads as reads
-use Rattle.regmap.proofs.build.put_lines.Lts as lts
-use Rattle.regmap.proofs.build.stops.Reads as stops-reads
-use Rattle.regmap.proofs.build.take.Reads as take-reads
-use Rattle.text.proofs.words.find.Reads as find-reads
 
 abbrev Inv-loop : tie.InvT-loop
 Inv-loop text store₀ at₀ line₀ store at line = Sound store × (length store ≡ length store₀) × (line ≤ at + 1)
@@ -18,63 +12,48 @@ Inv-loop text store₀ at₀ line₀ store at line = Sound store × (length stor
 abbrev μ-loop : tie.MeasureT-loop
 μ-loop text store₀ at₀ line₀ store at line = length text - at
 
--- src/build.rt:193:5
 loop-holds : tie.Need-loop-holds Inv-loop μ-loop
 loop-holds c = search needs
 
--- src/build.rt:194:13
 find-requires : tie.Need-find-requires Inv-loop μ-loop
 find-requires c κs = search needs
 
--- src/build.rt:195:26
 sub-take : tie.Need-sub-take Inv-loop μ-loop
 sub-take c = search needs
 
--- src/build.rt:195:26
 part-take-start : tie.Need-part-take-start Inv-loop μ-loop
 part-take-start c = search needs
 
--- src/build.rt:195:26
 part-take-end : tie.Need-part-take-end Inv-loop μ-loop
 part-take-end c = search needs
 
--- src/build.rt:195:13
 take-requires : tie.Need-take-requires Inv-loop μ-loop
 take-requires c κs = search needs
 
--- src/build.rt:196:12
 stops-requires : tie.Need-stops-requires Inv-loop μ-loop
 stops-requires c κs = search needs
 
--- src/build.rt:197:13
 same-length : tie.Need-same-length Inv-loop μ-loop
 same-length c = search needs
 
--- src/build.rt:197:13
 returns : tie.Need-returns Inv-loop μ-loop
 returns c = search needs
 
--- src/build.rt:199:14
 add-at : tie.Need-add-at Inv-loop μ-loop
 add-at c = search needs
 
--- src/build.rt:200:9
 add-line : tie.Need-add-line Inv-loop μ-loop
 add-line c = search needs
 
--- src/build.rt:193:5
 loop-less : tie.Need-loop-less Inv-loop μ-loop
 loop-less c = search needs
 
--- src/build.rt:193:5
 loop-again : tie.Need-loop-again Inv-loop μ-loop
 loop-again c = search needs
 
--- src/build.rt:188:1
 same-length-2 : tie.Need-same-length-2 Inv-loop μ-loop
 same-length-2 c = search needs
 
--- src/build.rt:188:1
 returns-2 : tie.Need-returns-2 Inv-loop μ-loop
 returns-2 c = search needs
 

@@ -1,14 +1,9 @@
-use mathlib.Core.Path.{_≡_, refl}
-use native.Mathlib.Omega.{arith}
-use Prim.Native.Nat.{_≤_, _-_, _+_}
-use lib.ListN.{length, length-set}
+use mathlib.Core.Path.{_≡_}
+use Prim.Native.Nat.{_-_}
+use lib.ListN.{length}
 use borrow.Author.Needs.{needs}
 use Rattle.regmap.proofs.script.turns.Statement.{statement}
 use Rattle.regmap.proofs.script.turns.Tie as tie
-use Rattle.regmap.proofs.script.turns.Reads as reads
-use Rattle.regmap.proofs.script.turns.Lts as lts
-use Rattle.regmap.proofs.script.turn.Reads as turn-reads
-use Rattle.text.proofs.words.find.Reads as find-reads
 
 abbrev Inv-loop : tie.InvT-loop
 Inv-loop script₀ store₀ buf₀ at₀ script store buf at = (length script ≡ length script₀) × (length store ≡ length store₀) × (length buf ≡ length buf₀)
@@ -16,71 +11,54 @@ Inv-loop script₀ store₀ buf₀ at₀ script store buf at = (length script �
 abbrev μ-loop : tie.MeasureT-loop
 μ-loop script₀ store₀ buf₀ at₀ script store buf at = length script - at
 
--- src/script.rt:58:5
 loop-holds : tie.Need-loop-holds Inv-loop μ-loop
 loop-holds c = search needs
 
--- src/script.rt:59:13
 find-requires : tie.Need-find-requires Inv-loop μ-loop
 find-requires c κs = search needs
 
--- src/script.rt:60:27
 sub-turn : tie.Need-sub-turn Inv-loop μ-loop
 sub-turn c = search needs
 
--- src/script.rt:60:27
 part-turn-start : tie.Need-part-turn-start Inv-loop μ-loop
 part-turn-start c = search needs
 
--- src/script.rt:60:27
 part-turn-end : tie.Need-part-turn-end Inv-loop μ-loop
 part-turn-end c = search needs
 
--- src/script.rt:60:13
 turn-requires : tie.Need-turn-requires Inv-loop μ-loop
 turn-requires c κs = search needs
 
--- src/script.rt:62:13
 same-length : tie.Need-same-length Inv-loop μ-loop
 same-length c = search needs
 
--- src/script.rt:62:13
 same-length-2 : tie.Need-same-length-2 Inv-loop μ-loop
 same-length-2 c = search needs
 
--- src/script.rt:62:13
 same-length-3 : tie.Need-same-length-3 Inv-loop μ-loop
 same-length-3 c = search needs
 
--- src/script.rt:62:13
 returns : tie.Need-returns Inv-loop μ-loop
 returns c = search needs
 
--- src/script.rt:64:14
 add-at : tie.Need-add-at Inv-loop μ-loop
 add-at c = search needs
 
--- src/script.rt:58:5
 loop-less : tie.Need-loop-less Inv-loop μ-loop
 loop-less c = search needs
 
--- src/script.rt:58:5
 loop-again : tie.Need-loop-again Inv-loop μ-loop
 loop-again c = search needs
 
--- src/script.rt:56:1
 same-length-4 : tie.Need-same-length-4 Inv-loop μ-loop
 same-length-4 c = search needs
 
--- src/script.rt:56:1
 same-length-5 : tie.Need-same-length-5 Inv-loop μ-loop
 same-length-5 c = search needs
 
--- src/script.rt:56:1
 same-length-6 : tie.Need-same-length-6 Inv-loop μ-loop
 same-length-6 c = search needs
 
--- src/script.rt:56:1
 returns-2 : tie.Need-returns-2 Inv-loop μ-loop
 returns-2 c = search needs
 

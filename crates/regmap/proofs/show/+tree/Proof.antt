@@ -1,6 +1,4 @@
-use native.Mathlib.Omega.{arith}
 use borrow.Author.Needs.{needs}
-use borrow.Author.Tests.{not-true, not-false}
 use Prim.Native.Nat.{ℕ, _<_, _-_}
 use borrow.Fn.Kinds.{In}
 use borrow.Fn.PlainCycle.{Measures, is, falls, and}
@@ -28,95 +26,72 @@ tree-below t = and 1 tree-kinds.ps (falls 1 tree-kinds.ps _<_ μ-tree t) tree.Pr
 abbrev claims-tree : ℕ → tree-lts.Claims
 claims-tree t = (malformed-reads.Asked, malformed-reads.Learnt, record-at-reads.Asked, record-at-reads.Learnt, next-at-reads.Asked, next-at-reads.Learnt, after-head-reads.Asked, after-head-reads.Learnt, part-reads.Asked, part-reads.Learnt, tell-reads.Asked, tell-reads.Learnt, tree-below t, tree.Post)
 
--- src/show.rt:179:30
 tree-slice-aggregate-malformed : (t : ℕ) → tree-lts.Need-slice-aggregate-malformed (claims-tree t) (tree-at t) tree.Post
 tree-slice-aggregate-malformed t c = search needs
 
--- src/show.rt:179:9
 tree-malformed-requires : (t : ℕ) → tree-lts.Need-malformed-requires (claims-tree t) (tree-at t) tree.Post
 tree-malformed-requires t c κs = search needs
 
--- src/show.rt:179:9
 tree-returns : (t : ℕ) → tree-lts.Need-returns (claims-tree t) (tree-at t) tree.Post
 tree-returns t c = search needs
 
--- src/show.rt:181:42
 tree-record-at-requires : (t : ℕ) → tree-lts.Need-record-at-requires (claims-tree t) (tree-at t) tree.Post
 tree-record-at-requires t c κs = search needs
 
--- src/show.rt:181:25
 tree-enum-known-kind : (t : ℕ) → tree-lts.Need-enum-known-kind (claims-tree t) (tree-at t) tree.Post
 tree-enum-known-kind t c = search needs
 
--- src/show.rt:184:13
 tree-enum-told : (t : ℕ) → tree-lts.Need-enum-told (claims-tree t) (tree-at t) tree.Post
 tree-enum-told t c = search needs
 
--- src/show.rt:184:13
 tree-slice-aggregate-malformed-2 : (t : ℕ) → tree-lts.Need-slice-aggregate-malformed-2 (claims-tree t) (tree-at t) tree.Post
 tree-slice-aggregate-malformed-2 t c = search needs
 
--- src/show.rt:182:9
 tree-malformed-requires-2 : (t : ℕ) → tree-lts.Need-malformed-requires-2 (claims-tree t) (tree-at t) tree.Post
 tree-malformed-requires-2 t c κs = search needs
 
--- src/show.rt:182:9
 tree-returns-2 : (t : ℕ) → tree-lts.Need-returns-2 (claims-tree t) (tree-at t) tree.Post
 tree-returns-2 t c = search needs
 
--- src/show.rt:187:9
 tree-next-at-requires : (t : ℕ) → tree-lts.Need-next-at-requires (claims-tree t) (tree-at t) tree.Post
 tree-next-at-requires t c κs = search needs
 
--- src/show.rt:197:29
 tree-after-head-requires : (t : ℕ) → tree-lts.Need-after-head-requires (claims-tree t) (tree-at t) tree.Post
 tree-after-head-requires t c κs = search needs
 
--- src/show.rt:197:21
 tree-part-requires : (t : ℕ) → tree-lts.Need-part-requires (claims-tree t) (tree-at t) tree.Post
 tree-part-requires t c κs = search needs
 
--- src/show.rt:197:5
 tree-tell-requires : (t : ℕ) → tree-lts.Need-tell-requires (claims-tree t) (tree-at t) tree.Post
 tree-tell-requires t c κs = search needs
 
--- src/show.rt:205:36
 tree-add-tree : (t : ℕ) → tree-lts.Need-add-tree (claims-tree t) (tree-at t) tree.Post
 tree-add-tree t c = search needs
 
--- src/show.rt:205:13
 tree-tree-requires : (t : ℕ) → tree-lts.Need-tree-requires (claims-tree t) (tree-at t) tree.Post
 tree-tree-requires t c κs = search needs
 
--- src/show.rt:207:13
 tree-returns-3 : (t : ℕ) → tree-lts.Need-returns-3 (claims-tree t) (tree-at t) tree.Post
 tree-returns-3 t c = search needs
 
--- src/show.rt:209:32
 tree-add-tree-2 : (t : ℕ) → tree-lts.Need-add-tree-2 (claims-tree t) (tree-at t) tree.Post
 tree-add-tree-2 t c = search needs
 
--- src/show.rt:209:9
 tree-tree-requires-2 : (t : ℕ) → tree-lts.Need-tree-requires-2 (claims-tree t) (tree-at t) tree.Post
 tree-tree-requires-2 t c κs = search needs
 
--- src/show.rt:209:9
 tree-returns-4 : (t : ℕ) → tree-lts.Need-returns-4 (claims-tree t) (tree-at t) tree.Post
 tree-returns-4 t c = search needs
 
--- src/show.rt:212:30
 tree-add-tree-3 : (t : ℕ) → tree-lts.Need-add-tree-3 (claims-tree t) (tree-at t) tree.Post
 tree-add-tree-3 t c = search needs
 
--- src/show.rt:212:9
 tree-tree-requires-3 : (t : ℕ) → tree-lts.Need-tree-requires-3 (claims-tree t) (tree-at t) tree.Post
 tree-tree-requires-3 t c κs = search needs
 
--- src/show.rt:212:9
 tree-returns-5 : (t : ℕ) → tree-lts.Need-returns-5 (claims-tree t) (tree-at t) tree.Post
 tree-returns-5 t c = search needs
 
--- src/show.rt:177:1
 tree-returns-6 : (t : ℕ) → tree-lts.Need-returns-6 (claims-tree t) (tree-at t) tree.Post
 tree-returns-6 t c = search needs
 

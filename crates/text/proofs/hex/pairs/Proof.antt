@@ -1,16 +1,8 @@
-use mathlib.Core.Path.{_≡_, refl}
-use native.Mathlib.Omega.{arith}
-use Prim.Native.Nat.{_≤_, _-_, _+_}
-use lib.ListN.{length, length-set}
+use Prim.Native.Nat.{_≤_, _-_}
+use lib.ListN.{length}
 use borrow.Author.Needs.{needs}
 use Rattle.text.proofs.hex.pairs.Statement.{statement}
 use Rattle.text.proofs.hex.pairs.Tie as tie
-use Rattle.text.proofs.hex.pairs.Reads as reads
-use Rattle.text.proofs.hex.pairs.Lts as lts
-use Rattle.text.proofs.hex.is_pair.Reads as is-pair-reads
-use Rattle.text.proofs.hex.joined.Reads as joined-reads
-use Rattle.text.proofs.hex.none.Reads as none-reads
-use Rattle.text.proofs.hex.with.Reads as with-reads
 
 abbrev Inv-loop : tie.InvT-loop
 Inv-loop word few₀ i₀ few i = few .len ≤ 65
@@ -18,75 +10,57 @@ Inv-loop word few₀ i₀ few i = few .len ≤ 65
 abbrev μ-loop : tie.MeasureT-loop
 μ-loop word few₀ i₀ few i = length word - i
 
--- src/hex.rt:68:9
 none-requires : tie.Need-none-requires Inv-loop μ-loop
 none-requires c κs = search needs
 
--- src/hex.rt:68:9
 returns : tie.Need-returns Inv-loop μ-loop
 returns c = search needs
 
--- src/hex.rt:70:9
 none-requires-2 : tie.Need-none-requires-2 Inv-loop μ-loop
 none-requires-2 c κs = search needs
 
--- src/hex.rt:72:5
 loop-holds : tie.Need-loop-holds Inv-loop μ-loop
 loop-holds c = search needs
 
--- src/hex.rt:73:25
 mul-high : tie.Need-mul-high Inv-loop μ-loop
 mul-high c = search needs
 
--- src/hex.rt:73:20
 shared-slice-read-high : tie.Need-shared-slice-read-high Inv-loop μ-loop
 shared-slice-read-high c = search needs
 
--- src/hex.rt:74:24
 mul-low : tie.Need-mul-low Inv-loop μ-loop
 mul-low c = search needs
 
--- src/hex.rt:74:24
 add-low : tie.Need-add-low Inv-loop μ-loop
 add-low c = search needs
 
--- src/hex.rt:74:19
 shared-slice-read-low : tie.Need-shared-slice-read-low Inv-loop μ-loop
 shared-slice-read-low c = search needs
 
--- src/hex.rt:75:13
 is-pair-requires : tie.Need-is-pair-requires Inv-loop μ-loop
 is-pair-requires c κs = search needs
 
--- src/hex.rt:76:13
 none-requires-3 : tie.Need-none-requires-3 Inv-loop μ-loop
 none-requires-3 c κs = search needs
 
--- src/hex.rt:76:13
 returns-2 : tie.Need-returns-2 Inv-loop μ-loop
 returns-2 c = search needs
 
--- src/hex.rt:78:25
 joined-requires : tie.Need-joined-requires Inv-loop μ-loop
 joined-requires c κs = search needs
 
--- src/hex.rt:78:9
 with-requires : tie.Need-with-requires Inv-loop μ-loop
 with-requires c κs = search needs
 
--- src/hex.rt:79:9
 add-i : tie.Need-add-i Inv-loop μ-loop
 add-i c = search needs
 
--- src/hex.rt:72:5
 loop-less : tie.Need-loop-less Inv-loop μ-loop
 loop-less c = search needs
 
--- src/hex.rt:72:5
 loop-again : tie.Need-loop-again Inv-loop μ-loop
 loop-again c = search needs
 
--- src/hex.rt:64:1
 returns-3 : tie.Need-returns-3 Inv-loop μ-loop
 returns-3 c = search needs
 

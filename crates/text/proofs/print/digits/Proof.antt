@@ -1,15 +1,9 @@
-use mathlib.Core.Path.{_≡_, refl}
-use native.Mathlib.Omega.{arith}
-use Prim.Native.Nat.{_≤_, _-_, _+_}
-use lib.ListN.{length, length-set}
+use mathlib.Core.Path.{_≡_}
+use Prim.Native.Nat.{_-_}
+use lib.ListN.{length}
 use borrow.Author.Needs.{needs}
 use Rattle.text.proofs.print.digits.Statement.{statement}
 use Rattle.text.proofs.print.digits.Tie as tie
-use Rattle.text.proofs.print.digits.Reads as reads
-use Rattle.text.proofs.print.digits.Lts as lts
-use Rattle.text.proofs.print.glyph.Reads as glyph-reads
-use Rattle.text.proofs.print.say.Reads as say-reads
-use Rattle.text.proofs.words.part.Reads as part-reads
 
 abbrev Inv-loop : tie.InvT-loop
 Inv-loop to s text₀ i₀ n₀ text i n = length text ≡ 130
@@ -17,75 +11,57 @@ Inv-loop to s text₀ i₀ n₀ text i n = length text ≡ 130
 abbrev μ-loop : tie.MeasureT-loop
 μ-loop to s text₀ i₀ n₀ text i n = length s - i
 
--- src/print.rt:25:5
 loop-holds : tie.Need-loop-holds Inv-loop μ-loop
 loop-holds c = search needs
 
--- src/print.rt:29:29
 shared-slice-read-glyph : tie.Need-shared-slice-read-glyph Inv-loop μ-loop
 shared-slice-read-glyph c = search needs
 
--- src/print.rt:29:23
 glyph-requires : tie.Need-glyph-requires Inv-loop μ-loop
 glyph-requires c κs = search needs
 
--- src/print.rt:29:14
 mul-text : tie.Need-mul-text Inv-loop μ-loop
 mul-text c = search needs
 
--- src/print.rt:29:9
 array-write-text : tie.Need-array-write-text Inv-loop μ-loop
 array-write-text c = search needs
 
--- src/print.rt:30:33
 shared-slice-read-glyph-2 : tie.Need-shared-slice-read-glyph-2 Inv-loop μ-loop
 shared-slice-read-glyph-2 c = search needs
 
--- src/print.rt:30:27
 glyph-requires-2 : tie.Need-glyph-requires-2 Inv-loop μ-loop
 glyph-requires-2 c κs = search needs
 
--- src/print.rt:30:14
 mul-text-2 : tie.Need-mul-text-2 Inv-loop μ-loop
 mul-text-2 c = search needs
 
--- src/print.rt:30:14
 add-text : tie.Need-add-text Inv-loop μ-loop
 add-text c = search needs
 
--- src/print.rt:30:9
 array-write-text-2 : tie.Need-array-write-text-2 Inv-loop μ-loop
 array-write-text-2 c = search needs
 
--- src/print.rt:31:9
 add-i : tie.Need-add-i Inv-loop μ-loop
 add-i c = search needs
 
--- src/print.rt:32:13
 mul-n : tie.Need-mul-n Inv-loop μ-loop
 mul-n c = search needs
 
--- src/print.rt:25:5
 loop-less : tie.Need-loop-less Inv-loop μ-loop
 loop-less c = search needs
 
--- src/print.rt:25:5
 loop-again : tie.Need-loop-again Inv-loop μ-loop
 loop-again c = search needs
 
--- src/print.rt:34:18
 slice-aggregate-part : tie.Need-slice-aggregate-part Inv-loop μ-loop
 slice-aggregate-part c = search needs
 
--- src/print.rt:34:13
 part-requires : tie.Need-part-requires Inv-loop μ-loop
 part-requires c κs = search needs
 
--- src/print.rt:34:5
 say-requires : tie.Need-say-requires Inv-loop μ-loop
 say-requires c κs = search needs
 
--- src/print.rt:21:1
 returns : tie.Need-returns Inv-loop μ-loop
 returns c = search needs
 

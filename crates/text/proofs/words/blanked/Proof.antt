@@ -1,13 +1,10 @@
-use mathlib.Core.Path.{_≡_, refl}
+use mathlib.Core.Path.{_≡_}
 use native.Mathlib.Omega.{arith}
-use Prim.Native.Nat.{_≤_, _-_, _+_}
+use Prim.Native.Nat.{_-_}
 use lib.ListN.{length, length-set}
 use borrow.Author.Needs.{needs}
 use Rattle.text.proofs.words.blanked.Statement.{statement}
 use Rattle.text.proofs.words.blanked.Tie as tie
-use Rattle.text.proofs.words.blanked.Reads as reads
-use Rattle.text.proofs.words.blanked.Lts as lts
-use Rattle.text.proofs.words.unblank.Reads as unblank-reads
 
 abbrev Inv-loop : tie.InvT-loop
 Inv-loop s₀ i₀ s i = length s ≡ length s₀
@@ -15,39 +12,30 @@ Inv-loop s₀ i₀ s i = length s ≡ length s₀
 abbrev μ-loop : tie.MeasureT-loop
 μ-loop s₀ i₀ s i = length s - i
 
--- src/words.rt:50:5
 loop-holds : tie.Need-loop-holds Inv-loop μ-loop
 loop-holds c = search needs
 
--- src/words.rt:51:24
 slice-read-unblank : tie.Need-slice-read-unblank Inv-loop μ-loop
 slice-read-unblank c = search needs
 
--- src/words.rt:51:16
 unblank-requires : tie.Need-unblank-requires Inv-loop μ-loop
 unblank-requires c κs = search needs
 
--- src/words.rt:51:9
 slice-write-s : tie.Need-slice-write-s Inv-loop μ-loop
 slice-write-s c = search needs
 
--- src/words.rt:52:9
 add-i : tie.Need-add-i Inv-loop μ-loop
 add-i c = search needs
 
--- src/words.rt:50:5
 loop-less : tie.Need-loop-less Inv-loop μ-loop
 loop-less c = simp length-set (omega arith)
 
--- src/words.rt:50:5
 loop-again : tie.Need-loop-again Inv-loop μ-loop
 loop-again c = search needs
 
--- src/words.rt:48:1
 same-length : tie.Need-same-length Inv-loop μ-loop
 same-length c = search needs
 
--- src/words.rt:48:1
 returns : tie.Need-returns Inv-loop μ-loop
 returns c = search needs
 

@@ -1,14 +1,7 @@
-use mathlib.Core.Path.{_≡_, refl}
-use native.Mathlib.Omega.{arith}
-use Prim.Native.Nat.{_≤_, _-_, _+_}
-use lib.ListN.{length, length-set}
+use Prim.Native.Nat.{_≤_, _-_}
 use borrow.Author.Needs.{needs}
 use Rattle.text.proofs.words.index.Statement.{statement}
 use Rattle.text.proofs.words.index.Tie as tie
-use Rattle.text.proofs.words.index.Reads as reads
-use Rattle.text.proofs.words.index.Lts as lts
-use Rattle.text.proofs.words.is.Reads as is-reads
-use Rattle.text.proofs.words.word.Reads as word-reads
 
 abbrev Inv-loop : tie.InvT-loop
 Inv-loop table name count i₀ i = i ≤ count
@@ -16,35 +9,27 @@ Inv-loop table name count i₀ i = i ≤ count
 abbrev μ-loop : tie.MeasureT-loop
 μ-loop table name count i₀ i = count - i
 
--- src/words.rt:128:5
 loop-holds : tie.Need-loop-holds Inv-loop μ-loop
 loop-holds c = search needs
 
--- src/words.rt:129:15
 word-requires : tie.Need-word-requires Inv-loop μ-loop
 word-requires c κs = search needs
 
--- src/words.rt:129:12
 is-requires : tie.Need-is-requires Inv-loop μ-loop
 is-requires c κs = search needs
 
--- src/words.rt:130:13
 returns : tie.Need-returns Inv-loop μ-loop
 returns c = search needs
 
--- src/words.rt:132:9
 add-i : tie.Need-add-i Inv-loop μ-loop
 add-i c = search needs
 
--- src/words.rt:128:5
 loop-less : tie.Need-loop-less Inv-loop μ-loop
 loop-less c = search needs
 
--- src/words.rt:128:5
 loop-again : tie.Need-loop-again Inv-loop μ-loop
 loop-again c = search needs
 
--- src/words.rt:124:1
 returns-2 : tie.Need-returns-2 Inv-loop μ-loop
 returns-2 c = search needs
 
