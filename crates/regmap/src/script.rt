@@ -1,0 +1,92 @@
+// One command, or a file of them.
+use crate::commands::command;
+use crate::files::Loaded;
+use crate::files::load;
+use crate::says::DONE;
+use crate::says::OUT;
+use crate::says::TROUBLE;
+use text::print::say;
+use text::print::say_number;
+use text::words::blanked;
+use text::words::find;
+use text::words::has;
+use text::words::is;
+use text::words::part;
+use text::words::rest;
+use text::words::within;
+use text::words::word;
+
+const ERR: i32 = 2;
+
+// A line that begins with the word `-` may fail.
+fn may_fail(line: &[u8]) -> bool {
+    is(word(line, 0), b"-")
+}
+
+fn is_empty(line: &[u8]) -> bool {
+    has(line, 0) || is(part(word(line, 0), 0, 1), b"#")
+}
+
+// Does a line's command, and answers the status with which the run stops.
+fn step(line: &[u8], store: &mut [u8], buf: &mut [u8]) -> usize {
+    if may_fail(line) {
+        let status = command(rest(line, 1), store, buf, OUT);
+        say_status(status);
+        return DONE;
+    }
+    command(line, store, buf, OUT)
+}
+
+fn say_status(status: usize) {
+    say(OUT, b"status ");
+    say_number(OUT, status);
+    say(OUT, b"\n");
+}
+
+// The line as it stands; `> ` before it, if it is a command.
+fn say_line(line: &[u8]) {
+    if !(line.len() == 0 || is(part(line, 0, 1), b"#")) {
+        say(OUT, b"> ");
+    }
+    say(OUT, line);
+    say(OUT, b"\n");
+}
+
+fn turn(line: &mut [u8], store: &mut [u8], buf: &mut [u8]) -> usize {
+    say_line(line);
+    blanked(line);
+    if is_empty(line) {
+        return DONE;
+    }
+    step(line, store, buf)
+}
+
+fn turns(script: &mut [u8], store: &mut [u8], buf: &mut [u8]) -> usize {
+    let mut at = 0;
+    while at < script.len() {
+        let end = find(script, at, b'\n');
+        let status = turn(&mut script[at..end], store, buf);
+        if status != DONE {
+            return status;
+        }
+        at = end + 1;
+    }
+    DONE
+}
+
+fn run(path: &[u8], script: &mut [u8], store: &mut [u8], buf: &mut [u8]) -> usize {
+    let Loaded::Whole(n) = load(path, script, ERR) else {
+        return TROUBLE;
+    };
+    let e = within(n, script);
+    turns(&mut script[..e], store, buf)
+}
+
+// Does what the arguments ask, and answers the status.
+pub fn done(line: &[u8], store: &mut [u8], buf: &mut [u8]) -> usize {
+    if is(word(line, 0), b"run") && has(line, 2) {
+        let mut script = [0u8; 65_536];
+        return run(word(line, 1), &mut script, store, buf);
+    }
+    command(line, store, buf, ERR)
+}

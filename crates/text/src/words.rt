@@ -1,0 +1,135 @@
+// The words of a line: parted by zero bytes, which stand for blanks (`blanked`).
+use key_order::Ordering;
+use key_order::compare;
+ghost use Prim.Native.Nat.{_≤_};
+ghost use lib.ListN.{length};
+ghost use Rattle.io.specs.Counts.{Counts};
+
+// `n`, where the slice has that many bytes.
+pub fn within(n: usize, s: &[u8]) -> usize
+    ensures { λ r. ⌜ Counts r (now (s .entry)) ⌝ }
+{
+    if n <= s.len() { n } else { 0 }
+}
+
+// The bytes from `from` up to `to`; none, where they are not all there.
+pub fn part(s: &[u8], from: usize, to: usize) -> &[u8] {
+    let e = within(to, s);
+    if from <= e {
+        return &s[from..e];
+    }
+    &s[e..e]
+}
+
+// The part that begins at `from` and has `len` bytes.
+pub fn piece(s: &[u8], from: usize, len: usize) -> &[u8] {
+    let b = within(from, s);
+    let rest = &s[b..];
+    let n = within(len, rest);
+    &rest[..n]
+}
+
+pub fn is(word: &[u8], name: &[u8]) -> bool {
+    match compare(word, name) {
+        Ordering::Less => false,
+        Ordering::Equal => true,
+        Ordering::Greater => false,
+    }
+}
+
+fn unblank(b: u8) -> u8 {
+    match b {
+        b' ' | b'\t' | b'\r' => 0,
+        _ => b,
+    }
+}
+
+// Puts zeros for blanks: space, tab and carriage return.
+pub fn blanked(s: &mut [u8]) {
+    let mut i = 0;
+    while i < s.len() {
+        s[i] = unblank(s[i]);
+        i += 1;
+    }
+}
+
+// The place of the first byte from `from` on that is `b`, or the end.
+pub fn find(s: &[u8], from: usize, b: u8) -> usize
+    requires { ⌜ from ≤ length (now s) ⌝ }
+    ensures { λ r. ⌜ (from ≤ r) × (r ≤ length (now (s .entry))) ⌝ }
+{
+    let mut i = from;
+    while i < s.len() {
+        if s[i] == b {
+            return i;
+        }
+        i += 1;
+    }
+    i
+}
+
+// The place of the first byte from `from` on that is not zero, or the end.
+fn skip(s: &[u8], from: usize) -> usize
+    requires { ⌜ from ≤ length (now s) ⌝ }
+    ensures { λ r. ⌜ (from ≤ r) × (r ≤ length (now (s .entry))) ⌝ }
+{
+    let mut i = from;
+    while i < s.len() {
+        if s[i] != 0 {
+            return i;
+        }
+        i += 1;
+    }
+    i
+}
+
+// Where the word `k` begins, counted from 0; the end, if there are fewer.
+fn start(line: &[u8], k: usize) -> usize
+    ensures { λ r. ⌜ r ≤ length (now (line .entry)) ⌝ }
+{
+    let mut at = skip(line, 0);
+    let mut left = k;
+    while left > 0 {
+        at = skip(line, find(line, at, 0));
+        left -= 1;
+    }
+    at
+}
+
+// The word `k`, counted from 0; no bytes, if there are fewer.
+pub fn word(line: &[u8], k: usize) -> &[u8] {
+    let a = start(line, k);
+    let e = find(line, a, 0);
+    &line[a..e]
+}
+
+// The line from the word `k` on.
+pub fn rest(line: &[u8], k: usize) -> &[u8] {
+    let a = start(line, k);
+    &line[a..]
+}
+
+// Whether the line has exactly `n` words.
+pub fn has(line: &[u8], n: usize) -> bool {
+    if n == 0 {
+        return start(line, 0) == line.len();
+    }
+    if start(line, n - 1) == line.len() {
+        return false;
+    }
+    start(line, n) == line.len()
+}
+
+// Which of the first `count` words of a table it is; `count`, if none.
+pub fn index(table: &[u8], name: &[u8], count: usize) -> usize
+    ensures { λ r. ⌜ r ≤ count ⌝ }
+{
+    let mut i = 0;
+    while i < count {
+        if is(word(table, i), name) {
+            return i;
+        }
+        i += 1;
+    }
+    count
+}
