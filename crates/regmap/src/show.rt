@@ -13,6 +13,7 @@ use text::print::say;
 use text::print::say_hex;
 use text::print::say_name;
 use text::print::say_number;
+use text::print::say_with_hex;
 use text::words::find;
 use text::words::part;
 use text::words::word;
@@ -257,9 +258,7 @@ pub fn read(w: &[u8], err: i32) -> usize {
         return refuse(err, r.number);
     }
     let digest = r.digest;
-    say(OUT, b"root digest ");
-    say_hex(OUT, &digest);
-    say(OUT, b"\n");
+    say_with_hex(OUT, b"root digest ", &digest, b"\n");
     DONE
 }
 
@@ -271,10 +270,9 @@ pub fn dot(w: &[u8], err: i32) -> usize {
     let digest = r.digest;
     say(
         OUT,
-        b"digraph witness {\n  ordering=out; node [shape=box, fontname=monospace]; labelloc=t; fontname=monospace;\n  label=\"root digest ",
+        b"digraph witness {\n  ordering=out; node [shape=box, fontname=monospace]; labelloc=t; fontname=monospace;\n",
     );
-    say_hex(OUT, &digest);
-    say(OUT, b"\";\n");
+    say_with_hex(OUT, b"  label=\"root digest ", &digest, b"\";\n");
     whole(w, true);
     say(OUT, b"}\n");
     DONE

@@ -8,8 +8,8 @@ use judge::judge;
 use search::Place;
 use text::hex;
 use text::print::say;
-use text::print::say_hex;
 use text::print::say_name;
+use text::print::say_with_hex;
 use text::words::part;
 use text::words::piece;
 use text::words::word;
@@ -19,9 +19,7 @@ ghost use Rattle.store.specs.Sound.{Sound};
 
 fn say_entry(key: &[u8], value: &[u8]) {
     say_name(OUT, key);
-    say(OUT, b" ");
-    say_hex(OUT, value);
-    say(OUT, b"\n");
+    say_with_hex(OUT, b" ", value, b"\n");
 }
 
 // Prints the entry at the place, and answers the place of the next one.
@@ -71,8 +69,7 @@ pub fn get(line: &[u8], store: &[u8], err: i32) -> usize {
     if r.number != 0 {
         return refuse(err, r.number);
     }
-    say_hex(OUT, piece(store, r.value_at, r.value_length));
-    say(OUT, b"\n");
+    say_with_hex(OUT, b"", piece(store, r.value_at, r.value_length), b"\n");
     DONE
 }
 
@@ -82,8 +79,7 @@ pub fn root(store: &[u8], err: i32) -> usize {
         return refuse(err, r.number);
     }
     let digest = r.digest;
-    say_hex(OUT, &digest);
-    say(OUT, b"\n");
+    say_with_hex(OUT, b"", &digest, b"\n");
     DONE
 }
 

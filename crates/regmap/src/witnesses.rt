@@ -7,8 +7,8 @@ use crate::says::REFUSED;
 use crate::says::refuse;
 use text::hex;
 use text::print::say;
-use text::print::say_hex;
 use text::print::say_number;
+use text::print::say_with_hex;
 use text::print::say3;
 use text::words::has;
 use text::words::is;
@@ -24,9 +24,7 @@ fn say_cut(path: &[u8], witness: &[u8]) {
     say(OUT, path);
     say(OUT, b": ");
     say_number(OUT, witness.len());
-    say(OUT, b" bytes, root ");
-    say_hex(OUT, &digest);
-    say(OUT, b"\n");
+    say_with_hex(OUT, b" bytes, root ", &digest, b"\n");
 }
 
 // Writes the witness, and says its length and the digest that it rebuilds to.
@@ -80,9 +78,13 @@ fn compare(path: &[u8], made: &[u8], wanted: &[u8], err: i32) -> usize {
         say(OUT, b" matches: it rebuilds to that root digest.\n");
         return DONE;
     }
-    say3(err, b"regmap: ", path, b" does not match: it rebuilds to ");
-    say_hex(err, made);
-    say(err, b". It is no witness of that release: do not use it.\n");
+    say3(err, b"regmap: ", path, b" does not match: ");
+    say_with_hex(
+        err,
+        b"it rebuilds to ",
+        made,
+        b". It is no witness of that release: do not use it.\n",
+    );
     REFUSED
 }
 

@@ -49,6 +49,13 @@ pub fn say_hex(to: i32, s: &[u8]) {
     digits(to, s);
 }
 
+// At most 65 bytes in hex, with a text before and one after.
+pub fn say_with_hex(to: i32, before: &[u8], s: &[u8], after: &[u8]) {
+    say(to, before);
+    say_hex(to, s);
+    say(to, after);
+}
+
 fn all_printable(s: &[u8]) -> bool {
     let mut i = 0;
     while i < s.len() {
