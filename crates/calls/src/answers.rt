@@ -16,7 +16,7 @@ use crate::reply::say_ok;
 use crate::reply::say_unknown;
 use crate::reply::say_whether;
 use crate::reply::say_witness;
-use crate::reply::within;
+use text::words::within;
 use witness::Saved;
 
 // How many bytes of the store and of the output are in use.

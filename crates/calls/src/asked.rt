@@ -2,11 +2,11 @@
 use crate::names::Call;
 use crate::names::named;
 use crate::names::takes_number;
-use crate::words::Number;
-use crate::words::decimal;
 use crate::words::is_hex;
 use crate::words::unhex;
-use crate::words::word_end;
+use text::hex::Number;
+use text::hex::decimal;
+use text::words::find;
 ghost use Prim.Native.Nat.{_≤_};
 ghost use lib.ListN.{length};
 
@@ -140,11 +140,11 @@ fn count(n: usize, a: usize, b: usize, c: usize) -> usize {
 pub fn asked_by(line: &mut [u8]) -> Asked {
     let n = line.len();
     let z = 0;
-    let a = word_end(line, z);
+    let a = find(line, z, b' ');
     let s = past(a, n);
-    let b = word_end(line, s);
+    let b = find(line, s, b' ');
     let t = past(b, n);
-    let c = word_end(line, t);
+    let c = find(line, t, b' ');
     let words = count(n, a, b, c);
     let call = named(&line[z..a], words);
     let number = decimal(&line[s..b]);

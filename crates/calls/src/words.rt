@@ -1,31 +1,8 @@
-// The words of a line: parted by single spaces; bytes in lowercase hex, numbers in decimal.
-use key_order::Ordering;
-use key_order::compare;
+// The words of a line: parted by single spaces; bytes in lowercase hex.
+use text::words::find;
+use text::words::is;
 ghost use Prim.Native.Nat.{_≤_};
 ghost use lib.ListN.{length};
-
-// Where the word that starts at `from` ends: at the next space, or with the line.
-pub fn word_end(line: &[u8], from: usize) -> usize
-    requires { ⌜ from ≤ length (now line) ⌝ }
-    ensures { λ r. ⌜ (from ≤ r) × (r ≤ length (now (line .entry))) ⌝ }
-{
-    let mut i = from;
-    while i < line.len() {
-        if line[i] == b' ' {
-            return i;
-        }
-        i += 1;
-    }
-    i
-}
-
-pub fn is(word: &[u8], name: &[u8]) -> bool {
-    match compare(word, name) {
-        Ordering::Less => false,
-        Ordering::Equal => true,
-        Ordering::Greater => false,
-    }
-}
 
 // Which of these words it is, counted from 0; as many as they are, if it is none.
 pub fn place(word: &[u8], words: &[u8]) -> usize {
@@ -33,7 +10,7 @@ pub fn place(word: &[u8], words: &[u8]) -> usize {
     let mut i = 0;
     let mut from = 0;
     while from < n {
-        let to = word_end(words, from);
+        let to = find(words, from, b' ');
         if is(word, &words[from..to]) {
             return i;
         }
@@ -107,42 +84,4 @@ pub fn unhex(word: &mut [u8]) -> usize
         i += 1;
     }
     n
-}
-
-// ---- numbers
-
-pub enum Number {
-    Is(u64),
-    Bad,
-}
-
-// The number with one digit more.
-fn appended(n: u64, b: u8) -> Number {
-    if b < b'0' {
-        return Number::Bad;
-    }
-    if b'9' < b {
-        return Number::Bad;
-    }
-    let d = (b - b'0') as u64;
-    if n <= (u64::MAX - d) / 10 {
-        return Number::Is(n * 10 + d);
-    }
-    Number::Bad
-}
-
-pub fn decimal(word: &[u8]) -> Number {
-    if word.len() == 0 {
-        return Number::Bad;
-    }
-    let mut n: u64 = 0;
-    let mut i = 0;
-    while i < word.len() {
-        let Number::Is(more) = appended(n, word[i]) else {
-            return Number::Bad;
-        };
-        n = more;
-        i += 1;
-    }
-    Number::Is(n)
 }

@@ -9,7 +9,7 @@ use report::say_bit;
 use report::say_refused;
 use slots::Header;
 ghost use mathlib.Core.Path.{_≡_};
-ghost use Prim.Native.Nat.{ℕ, _≤_, _<_};
+ghost use Prim.Native.Nat.{_≤_, _<_};
 ghost use lib.ListN.{length};
 
 const MASKS: [u8; 8] = [128, 64, 32, 16, 8, 4, 2, 1];

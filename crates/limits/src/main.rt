@@ -4,8 +4,8 @@ mod orders;
 mod report;
 
 use register_map::Found;
-use report::same;
 use report::say;
+use text::words::is;
 use witness::Saved;
 
 // ---- capacities
@@ -121,7 +121,7 @@ fn enough_output() {
     say(b"and 22 bytes of witness", r.size == 22);
     say(
         b"and they are the ones of document 01",
-        same(
+        is(
             &output,
             b"\x20\x00\x40\x01a\x60\x01\x01\x20\x00\x40\x01b\x60\x01\x02\x40\x01c\x60\x01\x03",
         ),
@@ -133,7 +133,7 @@ fn short_output() {
     let r = value_range(&mut output);
     say(b"value_range a to c, output of 21 bytes: 6", r.number == 6);
     say(b"and no byte of witness", r.size == 0);
-    say(b"and the output as it was", same(&output, &[0xa5; 21]));
+    say(b"and the output as it was", is(&output, &[0xa5; 21]));
 }
 
 fn main() {

@@ -1,7 +1,7 @@
 // One map, made in two orders: the same entries, and another root digest.
-use crate::report::same;
 use crate::report::say;
 use register_map::Found;
+use text::words::is;
 
 // A store of its own entries, each key with itself as its value, in the order given.
 fn filled(store: &mut [u8], keys: &[u8; 4]) {
@@ -28,13 +28,13 @@ fn part(store: &[u8], at: usize, length: usize) -> &[u8] {
 }
 
 fn same_entry(s: &[u8], f: Found, t: &[u8], g: Found) -> bool {
-    if !same(
+    if !is(
         part(s, f.key_at, f.key_length),
         part(t, g.key_at, g.key_length),
     ) {
         return false;
     }
-    same(
+    is(
         part(s, f.value_at, f.value_length),
         part(t, g.value_at, g.value_length),
     )
@@ -74,5 +74,5 @@ pub fn run() {
     );
     let d = register_map::root_hash(&up).digest;
     let e = register_map::root_hash(&down).digest;
-    say(b"and root digests that differ", !same(&d, &e));
+    say(b"and root digests that differ", !is(&d, &e));
 }

@@ -6,7 +6,7 @@ use Prim.Native.Nat.{ℕ, _<_}
 use lib.ListN.{length}
 use borrow.Author.Tests.{lt-ltb}
 use Rattle.key_order.specs.Order.{Key}
-use Rattle.store.specs.Numbers.{Refusal, NotSound, LongKey, Outcome, refused}
+use Rattle.store.specs.Numbers.{NotSound, LongKey, Outcome, refused}
 use Rattle.store.specs.Model.{Model}
 use Rattle.store.specs.Sound.{Sound}
 use Rattle.store.specs.Decide.{onSound}

@@ -1,13 +1,12 @@
 -- What a witness call has to answer where a test of its code refuses it; once for all that it may make.
 -- Assumes nothing.
-use mathlib.Core.Path.{_≡_, refl, sym, ap, _∙_}
-use mathlib.Core.Bool.{Bool, true, false, cond}
+use mathlib.Core.Path.{_≡_, sym, ap, _∙_}
+use mathlib.Core.Bool.{Bool, true}
 use mathlib.Core.List.{List}
 use Prim.Native.Nat.{ℕ, _≤_, _<_}
 use lib.ListN.{length}
 use borrow.Author.Tests.{lt-ltb, le-ltb}
-use Rattle.key_order.specs.declared.Ordering.{Ordering}
-use Rattle.key_order.specs.Order.{Key, cmp, pick}
+use Rattle.key_order.specs.Order.{Key}
 use Rattle.hash_tree.specs.HashTree.{HashTree}
 use Rattle.llrb.specs.Tree.{Tree}
 use Rattle.store.specs.Numbers.{Refusal, NotSound, LongKey, Reversed, numberOf, Outcome, refused}

@@ -300,5 +300,5 @@ pub fn build(line: &[u8], text: &[u8], store: &mut [u8], err: i32) -> usize {
     let Number::Is(capacity) = hex::decimal(word(line, 4)) else {
         return refuse(err, 8);
     };
-    made(line, text, store, capacity, err)
+    made(line, text, store, capacity as usize, err)
 }

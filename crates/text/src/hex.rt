@@ -123,30 +123,30 @@ pub fn name(word: &[u8]) -> Few
 // ---- numbers
 
 pub enum Number {
-    Is(usize),
+    Is(u64),
     Bad,
 }
 
-// The number with one digit more. No number above 100,000 is taken.
-fn appended(n: usize, b: u8) -> Number {
+// The number with one digit more, as long as it fits.
+fn appended(n: u64, b: u8) -> Number {
     if b < b'0' {
         return Number::Bad;
     }
     if b'9' < b {
         return Number::Bad;
     }
-    if 10_000 < n {
-        return Number::Bad;
+    let d = (b - b'0') as u64;
+    if n <= (u64::MAX - d) / 10 {
+        return Number::Is(n * 10 + d);
     }
-    let d = b - b'0';
-    Number::Is(n * 10 + d as usize)
+    Number::Bad
 }
 
 pub fn decimal(word: &[u8]) -> Number {
     if word.len() == 0 {
         return Number::Bad;
     }
-    let mut n: usize = 0;
+    let mut n: u64 = 0;
     let mut i = 0;
     while i < word.len() {
         let Number::Is(more) = appended(n, word[i]) else {

@@ -24,24 +24,25 @@ fn glyph(n: u8) -> u8 {
     b'a' + (n - 10) % 16
 }
 
-// The digits of at most 65 bytes.
+// The digits of any bytes, 4,096 digits at a time.
 fn digits(to: i32, s: &[u8]) {
-    let mut text = [0u8; 130];
+    let mut text = [0u8; 4096];
+    let mut at = 0;
     let mut i = 0;
-    let mut n = 0;
     while i < s.len() {
-        if 65 <= i {
-            break;
-        }
-        text[2 * i] = glyph(s[i] / 16);
-        text[2 * i + 1] = glyph(s[i] % 16);
+        text[at] = glyph(s[i] / 16);
+        text[at + 1] = glyph(s[i] % 16);
+        at += 2;
         i += 1;
-        n = 2 * i;
+        if at > 4094 {
+            say(to, &text);
+            at = 0;
+        }
     }
-    say(to, part(&text, 0, n));
+    say(to, &text[..at]);
 }
 
-// At most 65 bytes in hex; `-` if there are none.
+// Bytes in hex; `-` if there are none.
 pub fn say_hex(to: i32, s: &[u8]) {
     if s.len() == 0 {
         return say(to, b"-");
@@ -49,7 +50,7 @@ pub fn say_hex(to: i32, s: &[u8]) {
     digits(to, s);
 }
 
-// At most 65 bytes in hex, with a text before and one after.
+// Bytes in hex, with a text before and one after.
 pub fn say_with_hex(to: i32, before: &[u8], s: &[u8], after: &[u8]) {
     say(to, before);
     say_hex(to, s);
@@ -84,7 +85,7 @@ pub fn is_plain(s: &[u8]) -> bool {
     all_printable(s)
 }
 
-// A name of at most 65 bytes as it can be typed in again: as it is, or in hex.
+// A name as it can be typed in again: as it is, or in hex.
 pub fn say_name(to: i32, s: &[u8]) {
     if is_plain(s) {
         return say(to, s);

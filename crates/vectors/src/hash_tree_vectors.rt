@@ -39,7 +39,7 @@ fn digests() {
 fn rebuilt(name: &[u8], witness: &[u8]) {
     let answer = hash_tree::rebuild(witness);
     let digest = answer.digest;
-    number(answer.number as u64);
+    number(answer.number);
     line(&digest, name);
 }
 

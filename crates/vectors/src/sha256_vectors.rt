@@ -7,7 +7,7 @@ use sha256::Sha256;
 fn hash_of(name: &[u8], msg: &[u8]) {
     let answer = sha256::hash(msg);
     let digest = answer.digest;
-    number(answer.number as u64);
+    number(answer.number);
     line(&digest, name);
 }
 

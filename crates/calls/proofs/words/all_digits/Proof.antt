@@ -1,7 +1,5 @@
-use mathlib.Core.Path.{_≡_, refl}
-use native.Mathlib.Omega.{arith}
 use Prim.Native.Nat.{_≤_, _-_}
-use lib.ListN.{length, length-set}
+use lib.ListN.{length}
 use borrow.Author.Needs.{needs}
 use Rattle.calls.proofs.words.all_digits.Statement.{statement}
 use Rattle.calls.proofs.words.all_digits.Tie as tie

@@ -13,8 +13,8 @@ abbrev μ-loop : tie.MeasureT-loop
 loop-holds : tie.Need-loop-holds Inv-loop μ-loop
 loop-holds c = search needs
 
-word-end-requires : tie.Need-word-end-requires Inv-loop μ-loop
-word-end-requires c κs = search needs
+find-requires : tie.Need-find-requires Inv-loop μ-loop
+find-requires c κs = search needs
 
 sub-is : tie.Need-sub-is Inv-loop μ-loop
 sub-is c = search needs
@@ -56,7 +56,7 @@ place-spec =
     Inv-loop
     μ-loop
     loop-holds
-    word-end-requires
+    find-requires
     sub-is
     part-is-start
     part-is-end
