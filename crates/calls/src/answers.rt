@@ -237,7 +237,7 @@ fn answer(line: &mut [u8], n: usize, store: &mut [u8], output: &mut [u8], sizes:
 }
 
 // A loop has to end, and nothing says that the input does: it counts its turns down, from a number that no run uses up.
-pub fn run(chunk: &mut [u8], line: &mut [u8], store: &mut [u8], output: &mut [u8]) {
+pub(crate) fn run(chunk: &mut [u8], line: &mut [u8], store: &mut [u8], output: &mut [u8]) {
     let mut turns = u64::MAX;
     let mut at = 0;
     let mut end = 0;

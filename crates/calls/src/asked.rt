@@ -10,17 +10,17 @@ use text::words::find;
 ghost use Prim.Native.Nat.{_≤_};
 ghost use lib.ListN.{length};
 
-pub struct Span {
-    pub from: usize,
-    pub to: usize,
+pub(crate) struct Span {
+    pub(crate) from: usize,
+    pub(crate) to: usize,
 }
 
 // The call, its number if it takes one, and where in the line its bytes lie, now that they stand there in place of their hex.
-pub struct Asked {
-    pub call: Call,
-    pub number: u64,
-    pub a: Span,
-    pub b: Span,
+pub(crate) struct Asked {
+    pub(crate) call: Call,
+    pub(crate) number: u64,
+    pub(crate) a: Span,
+    pub(crate) b: Span,
 }
 
 // A call that takes no bytes.
@@ -137,7 +137,7 @@ fn count(n: usize, a: usize, b: usize, c: usize) -> usize {
     4
 }
 
-pub fn asked_by(line: &mut [u8]) -> Asked {
+pub(crate) fn asked_by(line: &mut [u8]) -> Asked {
     let n = line.len();
     let z = 0;
     let a = find(line, z, b' ');

@@ -3,20 +3,20 @@ use libc::STDIN_FILENO;
 
 // What was read: whether there was a line at all, whether the buffer had room for it, and its length, or 0 for one without room: the
 // empty line too is none that a call has. Then what is left of the chunk.
-pub struct Line {
-    pub any: bool,
-    pub fits: bool,
-    pub len: usize,
-    pub at: usize,
-    pub end: usize,
+pub(crate) struct Line {
+    pub(crate) any: bool,
+    pub(crate) fits: bool,
+    pub(crate) len: usize,
+    pub(crate) at: usize,
+    pub(crate) end: usize,
 }
 
 // One byte more of standard input, or none; then what is left of the chunk.
-pub struct Byte {
-    pub any: bool,
-    pub byte: u8,
-    pub at: usize,
-    pub end: usize,
+pub(crate) struct Byte {
+    pub(crate) any: bool,
+    pub(crate) byte: u8,
+    pub(crate) at: usize,
+    pub(crate) end: usize,
 }
 
 fn refill(chunk: &mut [u8]) -> usize {
@@ -58,7 +58,7 @@ fn next(chunk: &mut [u8], at: usize, end: usize) -> Byte {
 }
 
 // A loop has to end, and nothing says that the input does: it counts its turns down, from a number that no run uses up.
-pub fn read_line(chunk: &mut [u8], line: &mut [u8], from: usize, to: usize) -> Line {
+pub(crate) fn read_line(chunk: &mut [u8], line: &mut [u8], from: usize, to: usize) -> Line {
     let mut turns = u64::MAX;
     let mut got = Line {
         any: false,

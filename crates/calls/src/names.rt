@@ -2,7 +2,7 @@
 use crate::words::place;
 
 // Sets the driver's own bytes; answers `ok`.
-pub enum Setup {
+pub(crate) enum Setup {
     Buffer,
     Load,
     Poke,
@@ -10,7 +10,7 @@ pub enum Setup {
 }
 
 // Changes the store.
-pub enum Change {
+pub(crate) enum Change {
     Create,
     Insert,
     Modify,
@@ -18,7 +18,7 @@ pub enum Change {
 }
 
 // Reads the store, or no store at all.
-pub enum Ask {
+pub(crate) enum Ask {
     Get,
     First,
     Next,
@@ -32,7 +32,7 @@ pub enum Ask {
 }
 
 // Reads the store and writes a witness.
-pub enum Show {
+pub(crate) enum Show {
     Full,
     Keys,
     Witness,
@@ -41,7 +41,7 @@ pub enum Show {
     Prefix,
 }
 
-pub enum Call {
+pub(crate) enum Call {
     Setup(Setup),
     Change(Change),
     Ask(Ask),
@@ -98,7 +98,7 @@ fn with_two(name: &[u8]) -> Call {
 }
 
 // The call that a line of so many words names by its first.
-pub fn named(name: &[u8], words: usize) -> Call {
+pub(crate) fn named(name: &[u8], words: usize) -> Call {
     match words {
         1 => alone(name),
         2 => with_one(name),
@@ -108,7 +108,7 @@ pub fn named(name: &[u8], words: usize) -> Call {
 }
 
 // Whether the word after the name is a number, and not bytes.
-pub fn takes_number(call: Call) -> bool {
+pub(crate) fn takes_number(call: Call) -> bool {
     match call {
         Call::Setup(which) => match which {
             Setup::Load => false,

@@ -32,27 +32,27 @@ fn end() {
 
 // ---- lines
 
-pub fn say_ok() {
+pub(crate) fn say_ok() {
     put(b"ok\n");
 }
 
 // A line that it does not know, bad hex, a number that does not fit.
-pub fn say_unknown() {
+pub(crate) fn say_unknown() {
     put(b"?\n");
 }
 
-pub fn say_number(n: usize) {
+pub(crate) fn say_number(n: usize) {
     number(n);
     end();
 }
 
-pub fn say_count(n: usize, count: usize) {
+pub(crate) fn say_count(n: usize, count: usize) {
     number(n);
     next(count);
     end();
 }
 
-pub fn say_whether(n: usize, yes: bool) {
+pub(crate) fn say_whether(n: usize, yes: bool) {
     number(n);
     if yes {
         put(b" yes\n");
@@ -61,7 +61,7 @@ pub fn say_whether(n: usize, yes: bool) {
     put(b" no\n");
 }
 
-pub fn say_found(f: Found) {
+pub(crate) fn say_found(f: Found) {
     number(f.number);
     next(f.key_at);
     next(f.key_length);
@@ -70,19 +70,19 @@ pub fn say_found(f: Found) {
     end();
 }
 
-pub fn say_bytes(s: &[u8]) {
+pub(crate) fn say_bytes(s: &[u8]) {
     hex(s);
     end();
 }
 
-pub fn say_digest(n: usize, digest: [u8; 32]) {
+pub(crate) fn say_digest(n: usize, digest: [u8; 32]) {
     number(n);
     put(b" ");
     say_bytes(&digest);
 }
 
 // A witness, and how many bytes past it are touched.
-pub fn say_witness(r: Saved, output: &[u8], touched: usize) {
+pub(crate) fn say_witness(r: Saved, output: &[u8], touched: usize) {
     number(r.number);
     next(r.size);
     put(b" ");

@@ -5,7 +5,7 @@ ghost use Prim.Native.Nat.{_≤_};
 ghost use lib.ListN.{length};
 
 // Which of these words it is, counted from 0; as many as they are, if it is none.
-pub fn place(word: &[u8], words: &[u8]) -> usize {
+pub(crate) fn place(word: &[u8], words: &[u8]) -> usize {
     let n = words.len();
     let mut i = 0;
     let mut from = 0;
@@ -55,7 +55,7 @@ fn all_digits(word: &[u8]) -> bool {
     true
 }
 
-pub fn is_hex(word: &[u8]) -> bool {
+pub(crate) fn is_hex(word: &[u8]) -> bool {
     if is(word, b"-") {
         return true;
     }
@@ -73,7 +73,7 @@ fn byte(high: u8, low: u8) -> u8 {
 }
 
 // Puts the bytes that a word stands for in its own front, and answers how many they are.
-pub fn unhex(word: &mut [u8]) -> usize
+pub(crate) fn unhex(word: &mut [u8]) -> usize
     ensures { λ r. ⌜ r ≤ length (now (word .entry)) ⌝ }
 {
     let n = word.len() / 2;

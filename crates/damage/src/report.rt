@@ -3,7 +3,7 @@ use libc::STDOUT_FILENO;
 use text::print::say_number;
 use text::print::say3;
 
-pub fn say(text: &[u8], sound: bool) {
+pub(crate) fn say(text: &[u8], sound: bool) {
     if sound {
         return say3(STDOUT_FILENO, text, b": ", b"sound\n");
     }
@@ -16,10 +16,10 @@ fn counted(text: &[u8], n: usize) {
     text::print::say(STDOUT_FILENO, b"\n");
 }
 
-pub fn say_bit(bit: usize) {
+pub(crate) fn say_bit(bit: usize) {
     counted(b"not refused with this bit turned: ", bit);
 }
 
-pub fn say_refused(n: usize) {
+pub(crate) fn say_refused(n: usize) {
     counted(b"refused with one bit turned, of 6064: ", n);
 }

@@ -63,7 +63,7 @@ fn entries(s: &[u8], t: &[u8]) -> usize {
     0
 }
 
-pub fn run() {
+pub(crate) fn run() {
     let mut up = [0u8; 608];
     let mut down = [0u8; 608];
     filled(&mut up, b"abcd");

@@ -2,7 +2,7 @@
 use libc::STDOUT_FILENO;
 use text::print::say3;
 
-pub fn say(text: &[u8], holds: bool) {
+pub(crate) fn say(text: &[u8], holds: bool) {
     if holds {
         return say3(STDOUT_FILENO, b"ok ", text, b"\n");
     }

@@ -293,7 +293,7 @@ fn fitted(line: &[u8], text: &[u8], store: &mut [u8], err: i32) -> usize {
 }
 
 // The map's blanks are zeros by now.
-pub fn build(line: &[u8], text: &[u8], store: &mut [u8], err: i32) -> usize {
+pub(crate) fn build(line: &[u8], text: &[u8], store: &mut [u8], err: i32) -> usize {
     if has(line, 3) {
         return fitted(line, text, store, err);
     }

@@ -65,7 +65,7 @@ fn on_other(kind: usize, line: &[u8], store: &mut [u8], buf: &mut [u8], err: i32
 }
 
 // Does one command, and answers its status. Complaints go to `err`.
-pub fn command(line: &[u8], store: &mut [u8], buf: &mut [u8], err: i32) -> usize {
+pub(crate) fn command(line: &[u8], store: &mut [u8], buf: &mut [u8], err: i32) -> usize {
     let kind = kind_of(line, err);
     if kind <= kinds::RANGE {
         return on_store(kind, line, store, buf, err);

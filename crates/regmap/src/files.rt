@@ -7,7 +7,7 @@ use text::words::part;
 use text::words::word;
 
 // How many bytes the file has, all of them at the front of the buffer; or nothing, and the reason was said.
-pub enum Loaded {
+pub(crate) enum Loaded {
     Whole(usize),
     No,
 }
@@ -59,7 +59,7 @@ fn too_long(err: i32, path: &[u8], n: usize) {
     say(err, b" bytes are read.\n");
 }
 
-pub fn load(path: &[u8], buf: &mut [u8], err: i32) -> Loaded {
+pub(crate) fn load(path: &[u8], buf: &mut [u8], err: i32) -> Loaded {
     let fd = os::open_read(path);
     if fd < 0 {
         trouble(err, b"read ", path);
@@ -125,7 +125,7 @@ fn put(name: &[u8], bytes: &[u8]) -> bool {
 }
 
 // Writes the file beside its place, and puts it there once it is whole. Answers DONE or TROUBLE.
-pub fn save(path: &[u8], bytes: &[u8], err: i32) -> usize {
+pub(crate) fn save(path: &[u8], bytes: &[u8], err: i32) -> usize {
     let b = beside(path);
     let name = b.name;
     let new = part(&name, 0, b.len);

@@ -12,33 +12,33 @@ ghost use Prim.Native.Nat.{_≤_};
 const NAMES: [u8; 70] =
     *b"list\0get\0root\0set\0unset\0witness\0prefix\0full\0range\0check\0read\0dot\0build";
 
-pub const LIST: usize = 0;
+pub(crate) const LIST: usize = 0;
 
-pub const GET: usize = 1;
+pub(crate) const GET: usize = 1;
 
-pub const ROOT: usize = 2;
+pub(crate) const ROOT: usize = 2;
 
-pub const SET: usize = 3;
+pub(crate) const SET: usize = 3;
 
-pub const UNSET: usize = 4;
+pub(crate) const UNSET: usize = 4;
 
-pub const WITNESS: usize = 5;
+pub(crate) const WITNESS: usize = 5;
 
-pub const PREFIX: usize = 6;
+pub(crate) const PREFIX: usize = 6;
 
-pub const FULL: usize = 7;
+pub(crate) const FULL: usize = 7;
 
-pub const RANGE: usize = 8;
+pub(crate) const RANGE: usize = 8;
 
-pub const CHECK: usize = 9;
+pub(crate) const CHECK: usize = 9;
 
-pub const READ: usize = 10;
+pub(crate) const READ: usize = 10;
 
-pub const DOT: usize = 11;
+pub(crate) const DOT: usize = 11;
 
-pub const BUILD: usize = 12;
+pub(crate) const BUILD: usize = 12;
 
-pub const NONE: usize = 13;
+pub(crate) const NONE: usize = 13;
 
 // How many words each has, its own name among them; and which of them is a name of a register, 0 if none.
 const WORDS: [usize; 14] = [2, 3, 2, 4, 3, 4, 4, 3, 5, 3, 2, 2, 3, 0];
@@ -121,7 +121,7 @@ fn rest_ok(kind: usize, line: &[u8], err: i32) -> bool {
 }
 
 // The number of the line's command; NONE, if there is none or its words are wrong, and that was said.
-pub fn kind_of(line: &[u8], err: i32) -> usize {
+pub(crate) fn kind_of(line: &[u8], err: i32) -> usize {
     let kind = index(&NAMES, word(line, 0), NONE);
     if !fits(kind, line) {
         usage(err);

@@ -4,15 +4,15 @@ use text::print::say_number;
 use text::print::say3;
 use text::words::word;
 
-pub const DONE: usize = 0;
+pub(crate) const DONE: usize = 0;
 
 // Refused by a number of document 01, or a digest that does not match.
-pub const REFUSED: usize = 1;
+pub(crate) const REFUSED: usize = 1;
 
 // The words are wrong, or a file can't be read or written.
-pub const TROUBLE: usize = 2;
+pub(crate) const TROUBLE: usize = 2;
 
-pub const OUT: i32 = 1;
+pub(crate) const OUT: i32 = 1;
 
 const USAGE: [u8; 1414] =
     *b"regmap: a map of registers as a store with a root digest, and witnesses of it
@@ -39,7 +39,7 @@ A name that is no printable word is hex: and its bytes in hex. Status: 0 done,
 1 refused or no match, 2 wrong words or files. docs/REGMAP.md says more.
 ";
 
-pub fn usage(err: i32) -> usize {
+pub(crate) fn usage(err: i32) -> usize {
     say(err, &USAGE);
     TROUBLE
 }
@@ -57,26 +57,26 @@ const MEANINGS: [u8; 692] =
 (9) the bytes are not exactly one witness. Get the file again; regmap read shows how far it makes sense.\0\
 (10) the message is longer than 65536 bytes.";
 
-pub fn meaning(err: i32, number: usize) {
+pub(crate) fn meaning(err: i32, number: usize) {
     if number > 0 {
         say(err, word(&MEANINGS, number - 1));
     }
     say(err, b"\n");
 }
 
-pub fn refuse(err: i32, number: usize) -> usize {
+pub(crate) fn refuse(err: i32, number: usize) -> usize {
     say(err, b"regmap: refused ");
     meaning(err, number);
     REFUSED
 }
 
 // A word that is no name, no value or no digest.
-pub fn bad_word(err: i32, word: &[u8], what: &[u8]) {
+pub(crate) fn bad_word(err: i32, word: &[u8], what: &[u8]) {
     say3(err, b"regmap: ", word, what);
 }
 
 // "12 registers", "1 register".
-pub fn say_registers(to: i32, n: usize) {
+pub(crate) fn say_registers(to: i32, n: usize) {
     say_number(to, n);
     if n == 1 {
         return say(to, b" register");

@@ -83,7 +83,7 @@ fn run(path: &[u8], script: &mut [u8], store: &mut [u8], buf: &mut [u8]) -> usiz
 }
 
 // Does what the arguments ask, and answers the status.
-pub fn done(line: &[u8], store: &mut [u8], buf: &mut [u8]) -> usize {
+pub(crate) fn done(line: &[u8], store: &mut [u8], buf: &mut [u8]) -> usize {
     if is(word(line, 0), b"run") && has(line, 2) {
         let mut script = [0u8; 65_536];
         return run(word(line, 1), &mut script, store, buf);

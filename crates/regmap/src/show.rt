@@ -250,7 +250,7 @@ fn whole(w: &[u8], picture: bool) {
     }
 }
 
-pub fn read(w: &[u8], err: i32) -> usize {
+pub(crate) fn read(w: &[u8], err: i32) -> usize {
     say(OUT, b"offset depth length  record\n");
     whole(w, false);
     let r = register_map::rebuild(w);
@@ -262,7 +262,7 @@ pub fn read(w: &[u8], err: i32) -> usize {
     DONE
 }
 
-pub fn dot(w: &[u8], err: i32) -> usize {
+pub(crate) fn dot(w: &[u8], err: i32) -> usize {
     let r = register_map::rebuild(w);
     if r.number != 0 {
         return refuse(err, r.number);

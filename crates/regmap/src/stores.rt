@@ -54,7 +54,7 @@ fn entries(store: &[u8])
     }
 }
 
-pub fn list(store: &[u8], err: i32) -> usize {
+pub(crate) fn list(store: &[u8], err: i32) -> usize {
     if !judge(store) {
         return refuse(err, 1);
     }
@@ -62,7 +62,7 @@ pub fn list(store: &[u8], err: i32) -> usize {
     DONE
 }
 
-pub fn get(line: &[u8], store: &[u8], err: i32) -> usize {
+pub(crate) fn get(line: &[u8], store: &[u8], err: i32) -> usize {
     let name = hex::name(word(line, 2));
     let key = name.bytes;
     let r = register_map::get(store, part(&key, 0, name.len));
@@ -73,7 +73,7 @@ pub fn get(line: &[u8], store: &[u8], err: i32) -> usize {
     DONE
 }
 
-pub fn root(store: &[u8], err: i32) -> usize {
+pub(crate) fn root(store: &[u8], err: i32) -> usize {
     let r = register_map::root_hash(store);
     if r.number != 0 {
         return refuse(err, r.number);
@@ -86,7 +86,7 @@ pub fn root(store: &[u8], err: i32) -> usize {
 // ---- set, unset
 
 // Writes the store, and says how many registers it holds and its root digest.
-pub fn keep(path: &[u8], store: &[u8], err: i32) -> usize {
+pub(crate) fn keep(path: &[u8], store: &[u8], err: i32) -> usize {
     let status = save(path, store, err);
     if status != DONE {
         return status;
@@ -104,7 +104,7 @@ fn changed(number: usize, path: &[u8], store: &[u8], err: i32) -> usize {
     keep(path, store, err)
 }
 
-pub fn set(line: &[u8], store: &mut [u8], err: i32) -> usize {
+pub(crate) fn set(line: &[u8], store: &mut [u8], err: i32) -> usize {
     let name = hex::name(word(line, 2));
     let value = hex::value(word(line, 3));
     let key = name.bytes;
@@ -113,7 +113,7 @@ pub fn set(line: &[u8], store: &mut [u8], err: i32) -> usize {
     changed(number, word(line, 1), store, err)
 }
 
-pub fn unset(line: &[u8], store: &mut [u8], err: i32) -> usize {
+pub(crate) fn unset(line: &[u8], store: &mut [u8], err: i32) -> usize {
     let name = hex::name(word(line, 2));
     let key = name.bytes;
     let number = register_map::delete(store, part(&key, 0, name.len));

@@ -55,7 +55,7 @@ fn kind_here(kind: usize, line: &[u8]) -> usize {
     if has(line, 6) { kinds::NONE } else { kind }
 }
 
-pub fn cut(kind: usize, line: &[u8], store: &[u8], out: &mut [u8], err: i32) -> usize {
+pub(crate) fn cut(kind: usize, line: &[u8], store: &[u8], out: &mut [u8], err: i32) -> usize {
     let first = hex::name(word(line, 3));
     let last = hex::name(word(line, 4));
     let a = first.bytes;
@@ -88,7 +88,7 @@ fn compare(path: &[u8], made: &[u8], wanted: &[u8], err: i32) -> usize {
     REFUSED
 }
 
-pub fn check(line: &[u8], witness: &[u8], err: i32) -> usize {
+pub(crate) fn check(line: &[u8], witness: &[u8], err: i32) -> usize {
     let r = register_map::rebuild(witness);
     if r.number != 0 {
         return refuse(err, r.number);

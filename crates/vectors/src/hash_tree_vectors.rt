@@ -55,7 +55,7 @@ fn witnesses() {
     rebuilt(b"hash tree: a record cut short", b"\x60\x05hell");
 }
 
-pub fn run() {
+pub(crate) fn run() {
     digests();
     witnesses();
 }

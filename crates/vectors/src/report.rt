@@ -6,12 +6,12 @@ use text::print::say_number;
 use text::print::say3;
 
 // The number of an answer, before its digest.
-pub fn number(n: usize) {
+pub(crate) fn number(n: usize) {
     say_number(STDOUT_FILENO, n);
     say(STDOUT_FILENO, b" ");
 }
 
-pub fn line(digest: &[u8; 32], name: &[u8]) {
+pub(crate) fn line(digest: &[u8; 32], name: &[u8]) {
     say_hex(STDOUT_FILENO, digest);
     say3(STDOUT_FILENO, b" ", name, b"\n");
 }

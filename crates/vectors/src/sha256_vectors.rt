@@ -60,7 +60,7 @@ fn parts() {
     );
 }
 
-pub fn run() {
+pub(crate) fn run() {
     texts();
     short();
     long();
