@@ -1,20 +1,13 @@
 // Hashes messages of several lengths with each implementation, in turn, and prints the best rate of each and ours over it.
-#include <stdint.h>
 #include <stdio.h>
 #include <string.h>
-#include <time.h>
+#include "clock.h"
 
 typedef void hash(const uint8_t *, size_t, uint8_t *);
 extern hash dampcandle_sha256, plain_gcc, plain_clang, plain_rust;
 static struct { const char *name; hash *f; } all[] = {
     {"Rattle", dampcandle_sha256}, {"C, gcc -O3", plain_gcc}, {"C, clang -O3", plain_clang}, {"Rust, opt-level 3", plain_rust}};
 enum { MANY = sizeof all / sizeof *all, TURNS = 15 };
-
-static double cpu(void) {
-  struct timespec t;
-  clock_gettime(CLOCK_PROCESS_CPUTIME_ID, &t);
-  return t.tv_sec + t.tv_nsec * 1e-9;
-}
 
 int main(void) {
   static uint8_t m[65536];

@@ -9,12 +9,4 @@
 # SHA-256, once with ours in its place, so that what is left of a difference is not the hash. Digests and blocks of SHA-256 for an
 # operation are counted in the Rust; ours computes the same ones.
 # It needs gcc and rustc, and is no part of the gate.
-set -eu
-cd "$(dirname "$0")/.."
-room=$(mktemp -d)
-trap 'rm -rf "$room"' EXIT
-bench/native.sh timed "$room/ours.o"
-rustc --edition 2021 -C opt-level=3 -C panic=abort bench/rust_side.rs -o "$room/rust.a"
-gcc -O3 bench/operations.c "$room/ours.o" "$room/rust.a" -lpthread -ldl -lm -o "$room/bench"
-echo "$(uname -m), $(lscpu | sed -n 's/^Model name: *//p')"
-"$room/bench"
+exec "$(dirname "$0")/beside-rust.sh" bench/operations.c

@@ -1,11 +1,10 @@
 // The soundness of a full store of 1,024 entries, beside the SHA-256 blocks that no judge can do without, in one run.
 // An entry costs two blocks for its leaf (17 bytes of tag, 64 of value), two for its label (20, 48 of key, 32 of digest), and
 // two more for each child (17 and twice 32): 6 times 1,024 less 2.
-#include <stdint.h>
 #include <stdio.h>
 #include <stdlib.h>
 #include <string.h>
-#include <time.h>
+#include "clock.h"
 
 typedef void hash(const uint8_t *, size_t, uint8_t *);
 typedef void blocks(uint32_t *, const uint8_t *, size_t);
@@ -16,18 +15,6 @@ extern _Bool dampcandle_judge(const uint8_t *, size_t);
 enum { N = 1024, LEN = 8 + 150 * N, BLOCKS = 6 * N - 2, TURNS = 40 };
 static uint8_t store[LEN], key[N][48], value[N][64];
 static int slot_of[N];
-
-static double cpu(void) {
-  struct timespec t;
-  clock_gettime(CLOCK_PROCESS_CPUTIME_ID, &t);
-  return t.tv_sec + t.tv_nsec * 1e-9;
-}
-
-static uint64_t seed = 88172645463325252u;
-static uint64_t rnd(void) {
-  seed ^= seed << 13, seed ^= seed >> 7, seed ^= seed << 17;
-  return seed;
-}
 
 static uint8_t *at(int slot) { return store + 8 + 150 * (slot - 1); }
 

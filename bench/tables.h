@@ -1,9 +1,8 @@
 // What operations.c and witnesses.c share: the two sides' functions, tables of keys and values, a fresh store, the clock.
-#include <stdint.h>
 #include <stdio.h>
 #include <stdlib.h>
 #include <string.h>
-#include <time.h>
+#include "clock.h"
 
 typedef uint8_t u8;
 typedef _Bool yes;
@@ -37,18 +36,6 @@ extern void *rust_tree(const u8 *, size_t);
 extern void rust_digest(const void *, u8 *);
 
 enum { MOST = 1024, ROWS = 4096 };
-
-static double cpu(void) {
-  struct timespec t;
-  clock_gettime(CLOCK_PROCESS_CPUTIME_ID, &t);
-  return t.tv_sec + t.tv_nsec * 1e-9;
-}
-
-static uint64_t seed = 88172645463325252u;
-static uint64_t rnd(void) {
-  seed ^= seed << 13, seed ^= seed >> 7, seed ^= seed << 17;
-  return seed >> 16;
-}
 
 static void must(int ok, const char *what) {
   if (!ok) printf("%s\n", what), exit(1);

@@ -10,12 +10,4 @@
 # The Rust: its hash_tree is the oracle's stand-in, at opt-level 3 with no debug assertions; with the oracle's own plain Rust SHA-256,
 # and with ours in its place. Digests and blocks of SHA-256 for one call are counted in the Rust.
 # It needs gcc and rustc, and is no part of the gate.
-set -eu
-cd "$(dirname "$0")/.."
-room=$(mktemp -d)
-trap 'rm -rf "$room"' EXIT
-bench/native.sh timed "$room/ours.o"
-rustc --edition 2021 -C opt-level=3 -C panic=abort bench/rust_side.rs -o "$room/rust.a"
-gcc -O3 bench/witnesses.c "$room/ours.o" "$room/rust.a" -lpthread -ldl -lm -o "$room/bench"
-echo "$(uname -m), $(lscpu | sed -n 's/^Model name: *//p')"
-"$room/bench"
+exec "$(dirname "$0")/beside-rust.sh" bench/witnesses.c
