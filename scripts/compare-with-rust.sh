@@ -6,11 +6,7 @@
 set -eu
 cd "$(dirname "$0")/.."
 scripts=${1:-20} lines=${2:-5000}
-cargo build --quiet --release --offline --manifest-path oracle/Cargo.toml
-oracle=oracle/target/release/oracle
-[ -x target/bin/calls ] || rt check calls >/dev/null
-room=$(mktemp -d)
-trap 'rm -rf "$room"' EXIT
+. scripts/oracle.sh
 compared=0 differ=0
 for seed in $(seq 1 "$scripts"); do
   "$oracle" script "$seed" "$lines" >"$room/script"

@@ -7,11 +7,7 @@
 set -eu
 cd "$(dirname "$0")/.."
 scripts=${1:-20} lines=${2:-15000}
-cargo build --quiet --release --offline --manifest-path oracle/Cargo.toml
-oracle=oracle/target/release/oracle
-[ -x target/bin/calls ] || rt check calls >/dev/null
-room=$(mktemp -d)
-trap 'rm -rf "$room"' EXIT
+. scripts/oracle.sh
 crashes=0 held=()
 for seed in $(seq 1 "$scripts"); do
   "$oracle" fuzz "$seed" "$lines" >"$room/$seed.script"
