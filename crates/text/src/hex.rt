@@ -1,7 +1,9 @@
 // Names and values as a person writes them, and decimal numbers.
 use crate::words::is;
 use crate::words::part;
+ghost use mathlib.Core.Path.{_≡_};
 ghost use Prim.Native.Nat.{_≤_};
+ghost use Rattle.text.specs.Hex.{digitOf, isPair, joinedOf, appendedTo, decimalOf};
 
 // A few bytes: the longest value that a store takes, and one more, so that what is too long still is.
 pub const FEW: usize = 65;
@@ -39,7 +41,7 @@ fn with(few: Few, b: u8) -> Few
 
 // What a digit stands for, or 16.
 fn digit(b: u8) -> u8
-    ensures { λ r. ⌜ r ≤ 16 ⌝ }
+    ensures { λ r. ⌜ (r ≡ digitOf b) × (r ≤ 16) ⌝ }
 {
     match b {
         b'0'..=b'9' => b - b'0',
@@ -49,11 +51,15 @@ fn digit(b: u8) -> u8
     }
 }
 
-fn joined(high: u8, low: u8) -> u8 {
+fn joined(high: u8, low: u8) -> u8
+    ensures { λ r. ⌜ r ≡ joinedOf high low ⌝ }
+{
     digit(high) % 16 * 16 + digit(low) % 16
 }
 
-fn is_pair(high: u8, low: u8) -> bool {
+fn is_pair(high: u8, low: u8) -> bool
+    ensures { λ r. ⌜ r ≡ isPair high low ⌝ }
+{
     if digit(high) == 16 {
         return false;
     }
@@ -128,7 +134,9 @@ pub enum Number {
 }
 
 // The number with one digit more, as long as it fits.
-fn appended(n: u64, b: u8) -> Number {
+fn appended(n: u64, b: u8) -> Number
+    ensures { λ r. ⌜ r ≡ appendedTo n b ⌝ }
+{
     if b < b'0' {
         return Number::Bad;
     }
@@ -142,7 +150,9 @@ fn appended(n: u64, b: u8) -> Number {
     Number::Bad
 }
 
-pub fn decimal(word: &[u8]) -> Number {
+pub fn decimal(word: &[u8]) -> Number
+    ensures { λ r. ⌜ r ≡ decimalOf (now (word .entry)) ⌝ }
+{
     if word.len() == 0 {
         return Number::Bad;
     }

@@ -1,6 +1,8 @@
 // What a program prints, straight to a file descriptor.
 use crate::words::is;
 use crate::words::part;
+ghost use mathlib.Core.Path.{_≡_};
+ghost use Rattle.text.specs.Hex.{glyphOf};
 
 pub fn say(to: i32, s: &[u8]) {
     io::write_all(to, s);
@@ -17,7 +19,9 @@ pub fn say_number(to: i32, n: usize) {
     io::print_decimal(to, n as u64);
 }
 
-fn glyph(n: u8) -> u8 {
+fn glyph(n: u8) -> u8
+    ensures { λ r. ⌜ r ≡ glyphOf n ⌝ }
+{
     if n < 10 {
         return b'0' + n;
     }

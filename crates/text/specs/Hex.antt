@@ -1,0 +1,48 @@
+-- Hex digits and decimal numbers, as a person writes them.
+-- Assumes nothing: these are definitions.
+use mathlib.Core.Bool.{Bool, cond, not, _&&_}
+use mathlib.Core.List.{List, [], _∷_}
+use Prim.Native.Nat.{ℕ, _+_, _*_, _-_, _%_, _^_}
+use lib.Dec.{ltb, leb, eqb}
+use Rattle.text.specs.declared.hex.Number.{Number}
+use Rattle.text.specs.declared.hex.Number.the-variants.{Is, Bad}
+
+-- from the first to the last of a row of letters
+abbrev pub between : ℕ → ℕ → ℕ → Bool
+between first last b = leb first b && leb b last
+
+-- what a hex digit stands for: 0 to 9, a to f, A to F; 16 for any other byte
+unfoldable pub digitOf : ℕ → ℕ
+digitOf b =
+    cond (between 48 57 b) (b - 48) (cond (between 97 102 b) (b - 97 + 10) (cond (between 65 70 b) (b - 65 + 10) 16))
+
+unfoldable pub isPair : ℕ → ℕ → Bool
+isPair high low = not (eqb (digitOf high) 16) && not (eqb (digitOf low) 16)
+
+-- the byte of two digits; no digit counts as 0
+unfoldable pub joinedOf : ℕ → ℕ → ℕ
+joinedOf high low = digitOf high % 16 * 16 + digitOf low % 16
+
+-- the digit for a number below 16
+unfoldable pub glyphOf : ℕ → ℕ
+glyphOf n = cond (ltb n 10) (48 + n) (97 + (n - 10) % 16)
+
+-- ---- numbers
+
+-- the number with one decimal digit more; bad, if it is no digit or the number needs more than 64 bits
+unfoldable pub appendedTo : ℕ → ℕ → Number
+appendedTo n b = cond (between 48 57 b && ltb (n * 10 + (b - 48)) (2 ^ 64)) (Is (n * 10 + (b - 48))) Bad
+
+abbrev pub andThen : (ℕ → Number) → Number → Number
+andThen f (Is n) = f n
+andThen f Bad = Bad
+
+-- the number n with the digits after it
+unfoldable pub numberFrom : ℕ → List ℕ → Number
+numberFrom n [] = Is n
+numberFrom n (b ∷ word) = andThen (λ m. numberFrom m word) (appendedTo n b)
+
+-- at least one digit
+unfoldable pub decimalOf : List ℕ → Number
+decimalOf [] = Bad
+decimalOf (b ∷ word) = numberFrom 0 (b ∷ word)

@@ -1,0 +1,2 @@
+-- What the words of a line stand for.
+pub mod Hex
