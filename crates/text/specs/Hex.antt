@@ -1,9 +1,11 @@
--- Hex digits and decimal numbers, as a person writes them.
+-- Names and values as a person writes them, decimal numbers, and what can be printed as it is.
 -- Assumes nothing: these are definitions.
-use mathlib.Core.Bool.{Bool, cond, not, _&&_}
+use mathlib.Core.Bool.{Bool, true, false, cond, not, _&&_}
 use mathlib.Core.List.{List, [], _∷_}
-use Prim.Native.Nat.{ℕ, _+_, _*_, _-_, _%_, _^_}
+use Prim.Native.Nat.{ℕ, zero, suc, _+_, _*_, _-_, _%_, _^_}
 use lib.Dec.{ltb, leb, eqb}
+use lib.ListN.{length, take, set}
+use Rattle.text.specs.declared.hex.Few.{Few}
 use Rattle.text.specs.declared.hex.Number.{Number}
 use Rattle.text.specs.declared.hex.Number.the-variants.{Is, Bad}
 
@@ -23,9 +25,36 @@ isPair high low = not (eqb (digitOf high) 16) && not (eqb (digitOf low) 16)
 unfoldable pub joinedOf : ℕ → ℕ → ℕ
 joinedOf high low = digitOf high % 16 * 16 + digitOf low % 16
 
--- the digit for a number below 16
-unfoldable pub glyphOf : ℕ → ℕ
-glyphOf n = cond (ltb n 10) (48 + n) (97 + (n - 10) % 16)
+-- ---- a few bytes
+
+-- the first n of them, with zeros after them to make n
+unfoldable pub padded : ℕ → List ℕ → List ℕ
+padded zero xs = []
+padded (suc n) [] = 0 ∷ padded n []
+padded (suc n) (x ∷ xs) = x ∷ padded n xs
+
+unfoldable pub fewOf : Bool → List ℕ → Few
+fewOf ok xs = record { ok = ok; len = length (take 65 xs); bytes = padded 65 xs }
+
+-- one byte more, if there is room for it
+unfoldable pub withByte : Few → ℕ → Few
+withByte few b =
+    cond (ltb (few .len) 65) (record { ok = few .ok; len = few .len + 1; bytes = set (few .bytes) (few .len) b }) few
+
+-- pairs of hex digits, and nothing else
+unfoldable pub allPairs : List ℕ → Bool
+allPairs [] = true
+allPairs (a ∷ []) = false
+allPairs (a ∷ b ∷ word) = isPair a b && allPairs word
+
+-- the bytes that they stand for
+unfoldable pub joinedAll : List ℕ → List ℕ
+joinedAll [] = []
+joinedAll (a ∷ []) = []
+joinedAll (a ∷ b ∷ word) = joinedOf a b ∷ joinedAll word
+
+unfoldable pub pairsOf : List ℕ → Few
+pairsOf word = cond (allPairs word) (fewOf true (joinedAll word)) (fewOf false [])
 
 -- ---- numbers
 
@@ -46,3 +75,14 @@ numberFrom n (b ∷ word) = andThen (λ m. numberFrom m word) (appendedTo n b)
 unfoldable pub decimalOf : List ℕ → Number
 decimalOf [] = Bad
 decimalOf (b ∷ word) = numberFrom 0 (b ∷ word)
+
+-- ---- printing
+
+-- the digit for a number below 16
+unfoldable pub glyphOf : ℕ → ℕ
+glyphOf n = cond (ltb n 10) (48 + n) (97 + (n - 10) % 16)
+
+-- no blank, and nothing that a screen does not show
+unfoldable pub allPrintable : List ℕ → Bool
+allPrintable [] = true
+allPrintable (b ∷ word) = between 33 126 b && allPrintable word

@@ -2,8 +2,10 @@
 use crate::words::is;
 use crate::words::part;
 ghost use mathlib.Core.Path.{_≡_};
+ghost use mathlib.Core.Bool.{true};
+ghost use mathlib.Core.List.{[]};
 ghost use Prim.Native.Nat.{_≤_};
-ghost use Rattle.text.specs.Hex.{digitOf, isPair, joinedOf, appendedTo, decimalOf};
+ghost use Rattle.text.specs.Hex.{digitOf, isPair, joinedOf, fewOf, withByte, pairsOf, appendedTo, decimalOf};
 
 // A few bytes: the longest value that a store takes, and one more, so that what is too long still is.
 pub const FEW: usize = 65;
@@ -16,7 +18,7 @@ pub struct Few {
 }
 
 fn none(ok: bool) -> Few
-    ensures { λ r. ⌜ r .len ≤ 65 ⌝ }
+    ensures { λ r. ⌜ r ≡ fewOf ok [] ⌝ }
 {
     Few {
         ok,
@@ -27,8 +29,7 @@ fn none(ok: bool) -> Few
 
 // One byte more, if there is room for it.
 fn with(few: Few, b: u8) -> Few
-    requires { ⌜ few .len ≤ 65 ⌝ }
-    ensures { λ r. ⌜ r .len ≤ 65 ⌝ }
+    ensures { λ r. ⌜ r ≡ withByte few b ⌝ }
 {
     let at = few.len;
     let mut more = few;
@@ -41,7 +42,7 @@ fn with(few: Few, b: u8) -> Few
 
 // What a digit stands for, or 16.
 fn digit(b: u8) -> u8
-    ensures { λ r. ⌜ (r ≡ digitOf b) × (r ≤ 16) ⌝ }
+    ensures { λ r. ⌜ r ≡ digitOf b ⌝ }
 {
     match b {
         b'0'..=b'9' => b - b'0',
@@ -68,7 +69,7 @@ fn is_pair(high: u8, low: u8) -> bool
 
 // The bytes that pairs of hex digits stand for, the first 65 of them.
 fn pairs(word: &[u8]) -> Few
-    ensures { λ r. ⌜ r .len ≤ 65 ⌝ }
+    ensures { λ r. ⌜ r ≡ pairsOf (now (word .entry)) ⌝ }
 {
     if word.len() % 2 != 0 {
         return none(false);
@@ -102,7 +103,7 @@ pub fn value(word: &[u8]) -> Few
 
 // The first 65 bytes of a word as they are.
 fn plain(word: &[u8]) -> Few
-    ensures { λ r. ⌜ r .len ≤ 65 ⌝ }
+    ensures { λ r. ⌜ r ≡ fewOf true (now (word .entry)) ⌝ }
 {
     let mut few = none(true);
     let mut i = 0;

@@ -2,7 +2,7 @@
 use crate::words::is;
 use crate::words::part;
 ghost use mathlib.Core.Path.{_≡_};
-ghost use Rattle.text.specs.Hex.{glyphOf};
+ghost use Rattle.text.specs.Hex.{allPrintable, glyphOf};
 
 pub fn say(to: i32, s: &[u8]) {
     io::write_all(to, s);
@@ -61,7 +61,9 @@ pub fn say_with_hex(to: i32, before: &[u8], s: &[u8], after: &[u8]) {
     say(to, after);
 }
 
-fn all_printable(s: &[u8]) -> bool {
+fn all_printable(s: &[u8]) -> bool
+    ensures { λ r. ⌜ r ≡ allPrintable (now (s .entry)) ⌝ }
+{
     let mut i = 0;
     while i < s.len() {
         if s[i] <= b' ' {
