@@ -21,12 +21,12 @@ pub fn part(s: &[u8], from: usize, to: usize) -> &[u8] {
     &s[e..e]
 }
 
-// The part that begins at `from` and has `len` bytes.
+// The `len` bytes that begin at `from`; none, where they are not all there.
 pub fn piece(s: &[u8], from: usize, len: usize) -> &[u8] {
-    let b = within(from, s);
-    let rest = &s[b..];
-    let n = within(len, rest);
-    &rest[..n]
+    if from <= s.len() {
+        return part(&s[from..], 0, len);
+    }
+    &s[..0]
 }
 
 pub fn is(word: &[u8], name: &[u8]) -> bool {
