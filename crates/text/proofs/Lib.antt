@@ -1,0 +1,2 @@
+-- The steps of the functions of crate text.
+pub mod Lines

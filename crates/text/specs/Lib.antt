@@ -1,0 +1,2 @@
+-- What the text of the programs means.
+pub mod Words
