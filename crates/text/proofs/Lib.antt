@@ -1,4 +1,5 @@
--- The steps of the proofs of hex, decimal numbers and what can be printed.
+-- The steps of the functions of crate text.
+pub mod Lines
 pub mod Digits
 pub mod Numbers
 pub mod Fews

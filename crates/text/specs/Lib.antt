@@ -1,2 +1,3 @@
--- What the words of a line stand for.
+-- What the text of the programs means.
+pub mod Words
 pub mod Hex
