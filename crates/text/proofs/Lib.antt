@@ -4,4 +4,5 @@ pub mod Digits
 pub mod Numbers
 pub mod Fews
 pub mod Pairs
+pub mod Names
 pub mod Printing

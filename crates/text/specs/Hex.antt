@@ -4,7 +4,8 @@ use mathlib.Core.Bool.{Bool, true, false, cond, not, _&&_}
 use mathlib.Core.List.{List, [], _∷_}
 use Prim.Native.Nat.{ℕ, zero, suc, _+_, _*_, _-_, _%_, _^_}
 use lib.Dec.{ltb, leb, eqb}
-use lib.ListN.{length, take, set}
+use lib.ListN.{length, getD, take, drop, set}
+use Rattle.text.specs.Words.{partOf, sameBytes}
 use Rattle.text.specs.declared.hex.Few.{Few}
 use Rattle.text.specs.declared.hex.Number.{Number}
 use Rattle.text.specs.declared.hex.Number.the-variants.{Is, Bad}
@@ -56,6 +57,22 @@ joinedAll (a ∷ b ∷ word) = joinedOf a b ∷ joinedAll word
 unfoldable pub pairsOf : List ℕ → Few
 pairsOf word = cond (allPairs word) (fewOf true (joinedAll word)) (fewOf false [])
 
+-- ---- values and names
+
+-- hex, or `-` for no byte
+unfoldable pub valueOf : List ℕ → Few
+valueOf word =
+    cond (sameBytes word (45 ∷ [])) (fewOf true []) (cond (eqb (length word) 0) (fewOf false []) (pairsOf word))
+
+-- the word begins with `hex:`
+unfoldable pub saysHex : List ℕ → Bool
+saysHex word = sameBytes (partOf word 0 4) (104 ∷ 101 ∷ 120 ∷ 58 ∷ [])
+
+-- as it is, or `hex:` and hex
+unfoldable pub nameOf : List ℕ → Few
+nameOf word =
+    cond (saysHex word) (pairsOf (drop 4 word)) (cond (eqb (length word) 0) (fewOf false []) (fewOf true word))
+
 -- ---- numbers
 
 -- the number with one decimal digit more; bad, if it is no digit or the number needs more than 64 bits
@@ -86,3 +103,7 @@ glyphOf n = cond (ltb n 10) (48 + n) (97 + (n - 10) % 16)
 unfoldable pub allPrintable : List ℕ → Bool
 allPrintable [] = true
 allPrintable (b ∷ word) = between 33 126 b && allPrintable word
+
+-- a name that stands for itself: it has bytes, begins neither with `#` nor with `hex:`, and can be printed
+unfoldable pub isPlain : List ℕ → Bool
+isPlain s = not (eqb (length s) 0) && not (eqb (getD s 0 0) 35) && not (saysHex s) && allPrintable s

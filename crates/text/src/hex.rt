@@ -5,7 +5,7 @@ ghost use mathlib.Core.Path.{_≡_};
 ghost use mathlib.Core.Bool.{true};
 ghost use mathlib.Core.List.{[]};
 ghost use Prim.Native.Nat.{_≤_};
-ghost use Rattle.text.specs.Hex.{digitOf, isPair, joinedOf, fewOf, withByte, pairsOf, appendedTo, decimalOf};
+ghost use Rattle.text.specs.Hex.{digitOf, isPair, joinedOf, fewOf, withByte, pairsOf, valueOf, nameOf, appendedTo, decimalOf};
 
 // A few bytes: the longest value that a store takes, and one more, so that what is too long still is.
 pub const FEW: usize = 65;
@@ -90,6 +90,7 @@ fn pairs(word: &[u8]) -> Few
 
 // A value: hex, `-` for no byte.
 pub fn value(word: &[u8]) -> Few
+    ensures { λ r. ⌜ r ≡ valueOf (now (word .entry)) ⌝ }
     ensures { λ r. ⌜ r .len ≤ 65 ⌝ }
 {
     if is(word, b"-") {
@@ -116,6 +117,7 @@ fn plain(word: &[u8]) -> Few
 
 // A name: as it is, or `hex:` and hex digits. `hex:` alone is the name of no byte.
 pub fn name(word: &[u8]) -> Few
+    ensures { λ r. ⌜ r ≡ nameOf (now (word .entry)) ⌝ }
     ensures { λ r. ⌜ r .len ≤ 65 ⌝ }
 {
     if is(part(word, 0, 4), b"hex:") {

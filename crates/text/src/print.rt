@@ -2,7 +2,7 @@
 use crate::words::is;
 use crate::words::part;
 ghost use mathlib.Core.Path.{_≡_};
-ghost use Rattle.text.specs.Hex.{allPrintable, glyphOf};
+ghost use Rattle.text.specs.Hex.{allPrintable, glyphOf, isPlain};
 
 pub fn say(to: i32, s: &[u8]) {
     io::write_all(to, s);
@@ -78,7 +78,9 @@ fn all_printable(s: &[u8]) -> bool
 }
 
 // Whether a name stands for itself in a line of words.
-pub fn is_plain(s: &[u8]) -> bool {
+pub fn is_plain(s: &[u8]) -> bool
+    ensures { λ r. ⌜ r ≡ isPlain (now (s .entry)) ⌝ }
+{
     if s.len() == 0 {
         return false;
     }
