@@ -1,7 +1,11 @@
 // Names and values as a person writes them, and decimal numbers.
 use crate::words::is;
 use crate::words::part;
+ghost use mathlib.Core.Path.{_≡_};
+ghost use mathlib.Core.Bool.{true};
+ghost use mathlib.Core.List.{[]};
 ghost use Prim.Native.Nat.{_≤_};
+ghost use Rattle.text.specs.Hex.{digitOf, isPair, joinedOf, fewOf, withByte, pairsOf, valueOf, nameOf, appendedTo, decimalOf};
 
 // A few bytes: the longest value that a store takes, and one more, so that what is too long still is.
 pub const FEW: usize = 65;
@@ -14,7 +18,7 @@ pub struct Few {
 }
 
 fn none(ok: bool) -> Few
-    ensures { λ r. ⌜ r .len ≤ 65 ⌝ }
+    ensures { λ r. ⌜ r ≡ fewOf ok [] ⌝ }
 {
     Few {
         ok,
@@ -25,8 +29,7 @@ fn none(ok: bool) -> Few
 
 // One byte more, if there is room for it.
 fn with(few: Few, b: u8) -> Few
-    requires { ⌜ few .len ≤ 65 ⌝ }
-    ensures { λ r. ⌜ r .len ≤ 65 ⌝ }
+    ensures { λ r. ⌜ r ≡ withByte few b ⌝ }
 {
     let at = few.len;
     let mut more = few;
@@ -39,7 +42,7 @@ fn with(few: Few, b: u8) -> Few
 
 // What a digit stands for, or 16.
 fn digit(b: u8) -> u8
-    ensures { λ r. ⌜ r ≤ 16 ⌝ }
+    ensures { λ r. ⌜ r ≡ digitOf b ⌝ }
 {
     match b {
         b'0'..=b'9' => b - b'0',
@@ -49,11 +52,15 @@ fn digit(b: u8) -> u8
     }
 }
 
-fn joined(high: u8, low: u8) -> u8 {
+fn joined(high: u8, low: u8) -> u8
+    ensures { λ r. ⌜ r ≡ joinedOf high low ⌝ }
+{
     digit(high) % 16 * 16 + digit(low) % 16
 }
 
-fn is_pair(high: u8, low: u8) -> bool {
+fn is_pair(high: u8, low: u8) -> bool
+    ensures { λ r. ⌜ r ≡ isPair high low ⌝ }
+{
     if digit(high) == 16 {
         return false;
     }
@@ -62,7 +69,7 @@ fn is_pair(high: u8, low: u8) -> bool {
 
 // The bytes that pairs of hex digits stand for, the first 65 of them.
 fn pairs(word: &[u8]) -> Few
-    ensures { λ r. ⌜ r .len ≤ 65 ⌝ }
+    ensures { λ r. ⌜ r ≡ pairsOf (now (word .entry)) ⌝ }
 {
     if word.len() % 2 != 0 {
         return none(false);
@@ -83,6 +90,7 @@ fn pairs(word: &[u8]) -> Few
 
 // A value: hex, `-` for no byte.
 pub fn value(word: &[u8]) -> Few
+    ensures { λ r. ⌜ r ≡ valueOf (now (word .entry)) ⌝ }
     ensures { λ r. ⌜ r .len ≤ 65 ⌝ }
 {
     if is(word, b"-") {
@@ -96,7 +104,7 @@ pub fn value(word: &[u8]) -> Few
 
 // The first 65 bytes of a word as they are.
 fn plain(word: &[u8]) -> Few
-    ensures { λ r. ⌜ r .len ≤ 65 ⌝ }
+    ensures { λ r. ⌜ r ≡ fewOf true (now (word .entry)) ⌝ }
 {
     let mut few = none(true);
     let mut i = 0;
@@ -109,6 +117,7 @@ fn plain(word: &[u8]) -> Few
 
 // A name: as it is, or `hex:` and hex digits. `hex:` alone is the name of no byte.
 pub fn name(word: &[u8]) -> Few
+    ensures { λ r. ⌜ r ≡ nameOf (now (word .entry)) ⌝ }
     ensures { λ r. ⌜ r .len ≤ 65 ⌝ }
 {
     if is(part(word, 0, 4), b"hex:") {
@@ -128,7 +137,9 @@ pub enum Number {
 }
 
 // The number with one digit more, as long as it fits.
-fn appended(n: u64, b: u8) -> Number {
+fn appended(n: u64, b: u8) -> Number
+    ensures { λ r. ⌜ r ≡ appendedTo n b ⌝ }
+{
     if b < b'0' {
         return Number::Bad;
     }
@@ -142,7 +153,9 @@ fn appended(n: u64, b: u8) -> Number {
     Number::Bad
 }
 
-pub fn decimal(word: &[u8]) -> Number {
+pub fn decimal(word: &[u8]) -> Number
+    ensures { λ r. ⌜ r ≡ decimalOf (now (word .entry)) ⌝ }
+{
     if word.len() == 0 {
         return Number::Bad;
     }

@@ -1,6 +1,8 @@
 // What a program prints, straight to a file descriptor.
 use crate::words::is;
 use crate::words::part;
+ghost use mathlib.Core.Path.{_≡_};
+ghost use Rattle.text.specs.Hex.{allPrintable, glyphOf, isPlain};
 
 pub fn say(to: i32, s: &[u8]) {
     io::write_all(to, s);
@@ -17,7 +19,9 @@ pub fn say_number(to: i32, n: usize) {
     io::print_decimal(to, n as u64);
 }
 
-fn glyph(n: u8) -> u8 {
+fn glyph(n: u8) -> u8
+    ensures { λ r. ⌜ r ≡ glyphOf n ⌝ }
+{
     if n < 10 {
         return b'0' + n;
     }
@@ -57,7 +61,9 @@ pub fn say_with_hex(to: i32, before: &[u8], s: &[u8], after: &[u8]) {
     say(to, after);
 }
 
-fn all_printable(s: &[u8]) -> bool {
+fn all_printable(s: &[u8]) -> bool
+    ensures { λ r. ⌜ r ≡ allPrintable (now (s .entry)) ⌝ }
+{
     let mut i = 0;
     while i < s.len() {
         if s[i] <= b' ' {
@@ -72,7 +78,9 @@ fn all_printable(s: &[u8]) -> bool {
 }
 
 // Whether a name stands for itself in a line of words.
-pub fn is_plain(s: &[u8]) -> bool {
+pub fn is_plain(s: &[u8]) -> bool
+    ensures { λ r. ⌜ r ≡ isPlain (now (s .entry)) ⌝ }
+{
     if s.len() == 0 {
         return false;
     }

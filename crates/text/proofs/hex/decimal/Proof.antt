@@ -1,61 +1,50 @@
-use Prim.Native.Nat.{_≤_, _-_}
+use mathlib.Core.Path.{sym, _∙_}
+use native.Mathlib.Omega.{arith}
+use Rattle.text.proofs.Numbers.{Upto, no-digits, begins, ends, at-other, at-digit}
+use Prim.Native.Nat.{_-_}
 use lib.ListN.{length}
 use borrow.Author.Needs.{needs}
 use Rattle.text.proofs.hex.decimal.Statement.{statement}
 use Rattle.text.proofs.hex.decimal.Tie as tie
-use Rattle.text.proofs.hex.decimal.Reads as reads
-use Rattle.text.proofs.hex.decimal.Lts as lts
-use Rattle.text.proofs.hex.appended.Reads as appended-reads
 
 abbrev Inv-loop : tie.InvT-loop
-Inv-loop word n₀ i₀ n i = i ≤ length word
+Inv-loop word n₀ i₀ n i = Upto word n i
 
 abbrev μ-loop : tie.MeasureT-loop
 μ-loop word n₀ i₀ n i = length word - i
 
--- src/words.rt:116:9
 returns : tie.Need-returns Inv-loop μ-loop
-returns c = search needs
+returns c = no-digits (c .before .before .args .word .now) (c .if1 .taken)
 
--- src/words.rt:120:5
 loop-holds : tie.Need-loop-holds Inv-loop μ-loop
-loop-holds c = search needs
+loop-holds c = begins (c .before .before .args .word .now) (c .if1 .left)
 
--- src/words.rt:121:44
 shared-slice-read-appended : tie.Need-shared-slice-read-appended Inv-loop μ-loop
 shared-slice-read-appended c = search needs
 
--- src/words.rt:121:32
 appended-requires : tie.Need-appended-requires Inv-loop μ-loop
 appended-requires c κs = search needs
 
--- src/words.rt:121:24
 enum-known-more : tie.Need-enum-known-more Inv-loop μ-loop
 enum-known-more c = search needs
 
--- src/words.rt:122:13
 enum-told : tie.Need-enum-told Inv-loop μ-loop
 enum-told c = search needs
 
--- src/words.rt:122:13
 returns-2 : tie.Need-returns-2 Inv-loop μ-loop
-returns-2 c = search needs
+returns-2 c = at-other (c .before .before .before .before .before .loop .inv) (omega arith) (sym (c .before .before .appended .ensures) ∙ c .enum-told .given .1)
 
--- src/words.rt:125:9
 add-i : tie.Need-add-i Inv-loop μ-loop
 add-i c = search needs
 
--- src/words.rt:120:5
 loop-less : tie.Need-loop-less Inv-loop μ-loop
 loop-less c = search needs
 
--- src/words.rt:120:5
 loop-again : tie.Need-loop-again Inv-loop μ-loop
-loop-again c = search needs
+loop-again c = at-digit (c .before .before .before .before .before .before .loop .inv) (omega arith) _ (sym (c .before .before .before .appended .ensures) ∙ c .before .more .given .1)
 
--- src/words.rt:114:1
 returns-3 : tie.Need-returns-3 Inv-loop μ-loop
-returns-3 c = search needs
+returns-3 c = ends (c .before .loop .inv) (omega arith)
 
 pub decimal-spec : {M : Type 1} → statement M
 decimal-spec =

@@ -1,11 +1,15 @@
-use Prim.Native.Nat.{_≤_, _-_}
+use mathlib.Core.Path.{sym, _∙_}
+use native.Mathlib.Omega.{arith}
+use borrow.Author.Tests.{not-true, not-false}
+use Rattle.text.proofs.Pairs.{Upto, at-odd-length, begins, ends, at-other, at-pair}
+use Prim.Native.Nat.{_-_}
 use lib.ListN.{length}
 use borrow.Author.Needs.{needs}
 use Rattle.text.proofs.hex.pairs.Statement.{statement}
 use Rattle.text.proofs.hex.pairs.Tie as tie
 
 abbrev Inv-loop : tie.InvT-loop
-Inv-loop word few₀ i₀ few i = few .len ≤ 65
+Inv-loop word few₀ i₀ few i = Upto word few i
 
 abbrev μ-loop : tie.MeasureT-loop
 μ-loop word few₀ i₀ few i = length word - i
@@ -14,13 +18,13 @@ none-requires : tie.Need-none-requires Inv-loop μ-loop
 none-requires c κs = search needs
 
 returns : tie.Need-returns Inv-loop μ-loop
-returns c = search needs
+returns c = c .none .ensures ∙ at-odd-length (c .before .before .before .args .word .now) (c .before .if1 .taken)
 
 none-requires-2 : tie.Need-none-requires-2 Inv-loop μ-loop
 none-requires-2 c κs = search needs
 
 loop-holds : tie.Need-loop-holds Inv-loop μ-loop
-loop-holds c = search needs
+loop-holds c = begins (c .before .before .before .args .word .now) _ (c .none2 .ensures)
 
 mul-high : tie.Need-mul-high Inv-loop μ-loop
 mul-high c = search needs
@@ -44,7 +48,8 @@ none-requires-3 : tie.Need-none-requires-3 Inv-loop μ-loop
 none-requires-3 c κs = search needs
 
 returns-2 : tie.Need-returns-2 Inv-loop μ-loop
-returns-2 c = search needs
+returns-2 c =
+    c .none3 .ensures ∙ at-other (c .before .before .before .before .before .before .loop .inv) (omega arith) (sym (c .before .before .is-pair .ensures) ∙ not-true (c .before .before .is-pair .result) (c .before .if2 .taken))
 
 joined-requires : tie.Need-joined-requires Inv-loop μ-loop
 joined-requires c κs = search needs
@@ -59,10 +64,11 @@ loop-less : tie.Need-loop-less Inv-loop μ-loop
 loop-less c = search needs
 
 loop-again : tie.Need-loop-again Inv-loop μ-loop
-loop-again c = search needs
+loop-again c =
+    rw (c .with .ensures, c .before .joined .ensures) (at-pair (c .before .before .before .before .before .before .before .loop .inv) (omega arith) (sym (c .before .before .before .is-pair .ensures) ∙ not-false (c .before .before .before .is-pair .result) (c .before .before .if2 .left)))
 
 returns-3 : tie.Need-returns-3 Inv-loop μ-loop
-returns-3 c = search needs
+returns-3 c = ends (c .before .loop .inv) (c .before .before .before .if1 .left) (omega arith)
 
 pub pairs-spec : {M : Type 1} → statement M
 pairs-spec =

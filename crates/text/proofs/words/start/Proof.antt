@@ -1,11 +1,15 @@
-use Prim.Native.Nat.{_≤_}
+use mathlib.Core.Path.{_≡_}
+use native.Mathlib.Omega.{arith}
+use Rattle.text.specs.Words.{startOf}
+use Rattle.text.proofs.Lines.{start-first, start-next, start-ends}
+use Prim.Native.Nat.{_≤_, _-_}
 use lib.ListN.{length}
 use borrow.Author.Needs.{needs}
 use Rattle.text.proofs.words.start.Statement.{statement}
 use Rattle.text.proofs.words.start.Tie as tie
 
 abbrev Inv-loop : tie.InvT-loop
-Inv-loop line k at₀ left₀ at left = at ≤ length line
+Inv-loop line k at₀ left₀ at left = (at ≤ length line) × (left ≤ k) × (at ≡ startOf line (k - left))
 
 abbrev μ-loop : tie.MeasureT-loop
 μ-loop line k at₀ left₀ at left = left
@@ -14,7 +18,8 @@ skip-requires : tie.Need-skip-requires Inv-loop μ-loop
 skip-requires c κs = search needs
 
 loop-holds : tie.Need-loop-holds Inv-loop μ-loop
-loop-holds c = search needs
+loop-holds c =
+    (c .skip .ensures .0 .1, omega arith, start-first (c .before .before .args .line .now) (c .before .before .args .k) _ (c .skip .ensures .1))
 
 find-requires : tie.Need-find-requires Inv-loop μ-loop
 find-requires c κs = search needs
@@ -29,10 +34,12 @@ loop-less : tie.Need-loop-less Inv-loop μ-loop
 loop-less c = search needs
 
 loop-again : tie.Need-loop-again Inv-loop μ-loop
-loop-again c = search needs
+loop-again c =
+    (c .skip2 .ensures .0 .1, omega arith, start-next (c .before .before .before .before .before .before .args .line .now) (c .before .before .before .before .before .before .args .k) _ _ _ _ (omega arith) (omega arith) (c .before .before .before .loop .inv .2) (c .before .find .ensures .1) (c .skip2 .ensures .1))
 
 returns : tie.Need-returns Inv-loop μ-loop
-returns c = search needs
+returns c =
+    (c .before .loop .inv .0, start-ends (c .before .before .before .before .args .line .now) (c .before .before .before .before .args .k) _ _ (omega arith) (c .before .loop .inv .2))
 
 pub start-spec : {M : Type 1} → statement M
 start-spec =

@@ -1,0 +1,3 @@
+-- What the text of the programs means.
+pub mod Words
+pub mod Hex
