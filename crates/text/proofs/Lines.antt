@@ -9,13 +9,14 @@ use native.Mathlib.Numerals.{add-one}
 use native.Mathlib.Omega.{arith}
 use lib.Dec.{leb, eqb}
 use types.Run.{OneOf}
-use borrow.Author.Tests.{le-leb, lt-leb, leb-true, leb-false, eq-eqb, ne-eqb}
+use borrow.Author.Tests.{le-leb, lt-leb, leb-true, leb-false, eq-eqb, ne-eqb, eqb-true, eqb-false}
 use lib.ListN.{length, getD, set, take, drop, length-drop}
 use lib.Seq.{take-all, take-length, drop-cons, drop-length}
 use Rattle.key_order.specs.declared.Ordering.{Ordering}
 use Rattle.key_order.specs.Order.{cmp, pick}
 use Rattle.bytes.specs.Bytes.{indexOf, slice}
-use Rattle.text.specs.Words.{withinOf, partOf, pieceOf, sameBytes, unblankOf, blankedOf, zerosBefore, placeOf, skipOf, startOf, restOf, wordOf, hasWords, indexFrom, indexIn}
+use Rattle.text.specs.Words.{withinOf, partOf, pieceOf, sameBytes, unblankOf, blankedOf, zerosBefore, placeOf, skipOf, wordsOf, startOf, restOf, wordOf, hasWords, indexFrom, indexIn}
+use Rattle.text.proofs.Splitting.{word-split, ends-by, goes-on}
 
 -- ---- parts
 
@@ -113,27 +114,36 @@ module _ (line : List ℕ) (k : ℕ) where
   pub word-cut : (a e : ℕ) → a ≡ startOf line k → e ≡ placeOf line a 0 → take (e - a) (drop a line) ≡ wordOf line k
   word-cut a e h g =
       let n : e - a ≡ indexOf 0 (drop a line) = omega arith in
-      ap (λ (m : ℕ). take m (drop a line)) n ∙ ap (λ (b : ℕ). take (indexOf 0 (drop b line)) (drop b line)) h
+      ap (λ (m : ℕ). take m (drop a line)) n ∙ ap (λ (b : ℕ). take (indexOf 0 (drop b line)) (drop b line)) h ∙ word-split line k
 
   pub rest-cut : (a : ℕ) → a ≡ startOf line k → take (length line - a) (drop a line) ≡ restOf line k
   rest-cut a h = from-on line a ∙ ap (λ (b : ℕ). drop b line) h
 
-pub has-none : (line : List ℕ) (n r : ℕ) → n ≡ 0 → r ≡ startOf line 0 → eqb r (length line) ≡ hasWords line n
-has-none line n r e h = ap (λ (k : ℕ). eqb k (length line)) h ∙ ap (hasWords line) (sym e)
+same-test : (a b c d : ℕ) → (a ≡ b → c ≡ d) → ((a ≡ b → ⊥) → c ≡ d → ⊥) → eqb a b ≡ eqb c d
+same-test a b c d f g = at (eqb a b) refl
+  where
+    at : (t : Bool) → eqb a b ≡ t → t ≡ eqb c d
+    at true q = sym (eq-eqb c d (f (eqb-true a b q)))
+    at false q = sym (ne-eqb c d (g (eqb-false a b q)))
 
-pub has-fewer : (line : List ℕ) (n r : ℕ) → (n ≡ 0 → ⊥) → r ≡ startOf line (n - 1) → r ≡ length line → false ≡ hasWords line n
-has-fewer line zero r ne h e = absurd (ne refl)
-has-fewer line (suc m) r ne h e =
-    let z : suc m - 1 ≡ m = omega arith in
-    let q : startOf line m ≡ length line = sym (h ∙ ap (startOf line) z) ∙ e in
-    sym (rw (eq-eqb (startOf line m) (length line) q) refl)
+module _ (line : List ℕ) (n : ℕ) where
+  pub has-none : (r : ℕ) → n ≡ 0 → r ≡ startOf line 0 → eqb r (length line) ≡ hasWords line n
+  has-none r e h =
+      same-test r (length line) (length (wordsOf line)) n
+      (λ p. omega (arith, e, ends-by line 0 (sym h ∙ p)))
+      (λ p q. omega (arith, e, q, goes-on line 0 (λ x. p (h ∙ x))))
 
-pub has-so-many : (line : List ℕ) (n r t : ℕ) → (n ≡ 0 → ⊥) → r ≡ startOf line (n - 1) → (r ≡ length line → ⊥) → t ≡ startOf line n → eqb t (length line) ≡ hasWords line n
-has-so-many line zero r t ne h e g = absurd (ne refl)
-has-so-many line (suc m) r t ne h e g =
-    let z : suc m - 1 ≡ m = omega arith in
-    let q : startOf line m ≡ length line → ⊥ = λ p. e (h ∙ ap (startOf line) z ∙ p) in
-    rw (ne-eqb (startOf line m) (length line) q) (ap (λ (k : ℕ). eqb k (length line)) g)
+  pub has-fewer : (r : ℕ) → (n ≡ 0 → ⊥) → r ≡ startOf line (n - 1) → r ≡ length line → false ≡ hasWords line n
+  has-fewer r ne h e =
+      let l : length (wordsOf line) ≤ n - 1 = ends-by line (n - 1) (sym h ∙ e) in
+      sym (ne-eqb (length (wordsOf line)) n (λ q. ne (omega (arith, l, q))))
+
+  pub has-so-many : (r t : ℕ) → (n ≡ 0 → ⊥) → r ≡ startOf line (n - 1) → (r ≡ length line → ⊥) → t ≡ startOf line n → eqb t (length line) ≡ hasWords line n
+  has-so-many r t ne h e g =
+      let l : n - 1 < length (wordsOf line) = goes-on line (n - 1) (λ x. e (h ∙ x)) in
+      same-test t (length line) (length (wordsOf line)) n
+      (λ p. omega (arith, l, ends-by line n (sym g ∙ p)))
+      (λ p q. omega (arith, q, goes-on line n (λ x. p (g ∙ x))))
 
 module _ (table name : List ℕ) (count i : ℕ) where
   pub index-first : i ≡ 0 → indexIn table name count ≡ indexFrom table name i (count - i)

@@ -1,10 +1,10 @@
 -- Parts of a text, and the words of a line: parted by zero bytes, which stand for blanks.
 -- Assumes nothing: these are definitions.
-use mathlib.Core.Bool.{Bool, true, false, cond, not, _&&_, _||_}
-use mathlib.Core.List.{List, [], _∷_, map}
+use mathlib.Core.Bool.{Bool, true, false, cond, _||_}
+use mathlib.Core.List.{List, [], _∷_, _++_, map}
 use Prim.Native.Nat.{ℕ, zero, suc, _+_, _-_}
 use lib.Dec.{leb, eqb}
-use lib.ListN.{length, take, drop}
+use lib.ListN.{length, getD, take, drop}
 use Rattle.key_order.specs.Order.{cmp, pick}
 use Rattle.bytes.specs.Bytes.{indexOf}
 
@@ -51,6 +51,27 @@ skipOf s from = from + zerosBefore (drop from s)
 
 -- ---- words, counted from 0
 
+-- a word in front of others, if it has bytes
+abbrev pub closed : List ℕ → List (List ℕ) → List (List ℕ)
+closed [] ws = ws
+closed (a ∷ w) ws = (a ∷ w) ∷ ws
+
+-- the words of a line, w the bytes of its first word that came before
+unfoldable pub wordsFrom : List ℕ → List ℕ → List (List ℕ)
+wordsFrom w [] = closed w []
+wordsFrom w (x ∷ xs) = cond (eqb x 0) (closed w (wordsFrom [] xs)) (wordsFrom (w ++ (x ∷ [])) xs)
+
+abbrev pub wordsOf : List ℕ → List (List ℕ)
+wordsOf line = wordsFrom [] line
+
+-- word k; no bytes, if there are fewer
+abbrev pub wordOf : List ℕ → ℕ → List ℕ
+wordOf line k = getD (wordsOf line) k []
+
+-- there are exactly n words
+abbrev pub hasWords : List ℕ → ℕ → Bool
+hasWords line n = eqb (length (wordsOf line)) n
+
 -- where word k begins, or the end
 unfoldable pub startOf : List ℕ → ℕ → ℕ
 startOf line zero = skipOf line 0
@@ -59,19 +80,6 @@ startOf line (suc k) = skipOf line (placeOf line (startOf line k) 0)
 -- the line from word k on
 abbrev pub restOf : List ℕ → ℕ → List ℕ
 restOf line k = drop (startOf line k) line
-
--- word k: up to the next zero
-abbrev pub wordOf : List ℕ → ℕ → List ℕ
-wordOf line k = take (indexOf 0 (restOf line k)) (restOf line k)
-
--- there is no word k
-abbrev pub lacks : List ℕ → ℕ → Bool
-lacks line k = eqb (startOf line k) (length line)
-
--- there are exactly n words
-abbrev pub hasWords : List ℕ → ℕ → Bool
-hasWords line zero = lacks line 0
-hasWords line (suc n) = not (lacks line n) && lacks line (suc n)
 
 -- the first of n words from word i on that is the name; i + n, if none is
 unfoldable pub indexFrom : List ℕ → List ℕ → ℕ → ℕ → ℕ
