@@ -1,33 +1,16 @@
--- A call for one more row, and that the store stays sound.
+-- A call for one more row.
 -- Assumes nothing.
-use mathlib.Core.Path.{_≡_, refl, sym, ap, subst}
+use mathlib.Core.Path.{_≡_, refl, ap}
 use mathlib.Core.Bool.{true, false}
 use mathlib.Core.List.{List}
 use Prim.Native.Nat.{ℕ, _+_, _-_, _*_, _≤_}
 use native.Mathlib.Numerals.{add-one}
 use native.Mathlib.Omega.{arith}
 use lib.ListN.{length, length-take, take, drop}
-use Rattle.key_order.specs.Order.{Key}
-use Rattle.llrb.specs.Tree.{Value}
-use Rattle.store.specs.Sound.{Sound}
-use Rattle.store.specs.Model.{Model, inserted}
-use Rattle.rb_tree.specs.declared.Inserted.{Inserted}
 use Rattle.rb_tree.specs.declared.Inserted.the-variants as insert
-use Rattle.rb_tree.specs.declared.Changed.{Changed}
 use Rattle.rb_tree.specs.declared.Changed.the-variants as change
-use Rattle.rb_tree.specs.Stores.{AfterInsert, AfterChange}
 use Rattle.store.specs.Calls.{getAnswer, insertAnswer, modifyAnswer, deleteAnswer, asHashTreeAnswer, witnessAnswer, keyRangeAnswer, valueRangeAnswer}
 use Rattle.timed.specs.Rows.{Exactly, Ran, insertRows, modifyRows, deleteRows, one, foundRows, trees, witnessRows, keyRangeRows, valueRangeRows}
-
--- ---- a sound store stays sound
-
-pub insert-sound : (k : Key) (v : Value) {s s′ : List ℕ} (a : Sound s) (r : Inserted) → AfterInsert k v s s′ (a .0) r → Sound s′
-insert-sound k v a insert.Full w = subst Sound (sym (w .1)) a
-insert-sound k v a insert.Done w = (inserted k v (a .0), w .1 .holds)
-
-pub change-sound : (k : Key) {s s′ : List ℕ} (a : Sound s) (m : Model) (r : Changed) → AfterChange k s s′ (a .0) m r → Sound s′
-change-sound k a m change.Absent w = subst Sound (sym (w .1)) a
-change-sound k a m change.Done w = (m, w .1 .holds)
 
 -- ---- the part of a table that a slice takes
 

@@ -3,7 +3,7 @@ use native.Mathlib.Omega.{arith}
 use borrow.Author.Needs.{needs}
 use Rattle.store.specs.Answers as answers
 use Rattle.register_map.proofs.Changing.{delete-after}
-use Rattle.timed.proofs.Rowing.{change-sound}
+use Rattle.rb_tree.proofs.Sounding.{change-sound}
 use borrow.Author.Needs.{needs}
 use Rattle.timed.proofs.delete_row.Statement.{statement}
 use Rattle.timed.proofs.delete_row.Tie as tie

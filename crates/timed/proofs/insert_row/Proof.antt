@@ -3,7 +3,7 @@ use native.Mathlib.Omega.{arith}
 use borrow.Author.Needs.{needs}
 use Rattle.store.specs.Answers as answers
 use Rattle.register_map.proofs.Changing.{insert-after}
-use Rattle.timed.proofs.Rowing.{insert-sound}
+use Rattle.rb_tree.proofs.Sounding.{insert-sound}
 use borrow.Author.Needs.{needs}
 use Rattle.timed.proofs.insert_row.Statement.{statement}
 use Rattle.timed.proofs.insert_row.Tie as tie

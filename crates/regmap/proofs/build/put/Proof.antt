@@ -1,4 +1,4 @@
-use Rattle.regmap.proofs.Keeping.{stays-sound}
+use Rattle.rb_tree.proofs.Sounding.{insert-sound}
 use borrow.Author.Needs.{needs}
 use Rattle.regmap.proofs.build.put.Statement.{statement}
 use Rattle.regmap.proofs.build.put.Tie as tie
@@ -35,14 +35,14 @@ same-length-2 c = search needs
 
 returns-2 : tie.Need-returns-2
 returns-2 c =
-    stays-sound _ _ (c .before .before .before .before .before .before .before .before .before .before .before .before .before .pre .sound) (c .before .before .before .before .insert .result) (c .before .before .before .before .insert .ensures (c .before .before .before .before .before .before .before .before .before .before .before .before .before .pre .sound .0) (c .before .before .before .before .before .before .before .before .before .before .before .before .before .pre .sound .1))
+    insert-sound _ _ (c .before .before .before .before .before .before .before .before .before .before .before .before .before .pre .sound) (c .before .before .before .before .insert .result) (c .before .before .before .before .insert .ensures (c .before .before .before .before .before .before .before .before .before .before .before .before .before .pre .sound .0) (c .before .before .before .before .before .before .before .before .before .before .before .before .before .pre .sound .1))
 
 same-length-3 : tie.Need-same-length-3
 same-length-3 c = search needs
 
 returns-3 : tie.Need-returns-3
 returns-3 c =
-    stays-sound _ _ (c .before .before .before .before .before .before .before .before .before .before .before .before .before .pre .sound) (c .before .before .before .before .insert .result) (c .before .before .before .before .insert .ensures (c .before .before .before .before .before .before .before .before .before .before .before .before .before .pre .sound .0) (c .before .before .before .before .before .before .before .before .before .before .before .before .before .pre .sound .1))
+    insert-sound _ _ (c .before .before .before .before .before .before .before .before .before .before .before .before .before .pre .sound) (c .before .before .before .before .insert .result) (c .before .before .before .before .insert .ensures (c .before .before .before .before .before .before .before .before .before .before .before .before .before .pre .sound .0) (c .before .before .before .before .before .before .before .before .before .before .before .before .before .pre .sound .1))
 
 pub put-spec : {M : Type 1} → statement M
 put-spec =

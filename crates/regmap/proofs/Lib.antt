@@ -1,2 +1,0 @@
--- What the program's proofs cite of the libraries' promises.
-pub mod Keeping
