@@ -13,7 +13,7 @@ use Rattle.key_order.specs.declared.Ordering.{Ordering}
 use Rattle.key_order.specs.declared.Ordering.the-variants.{Less, Equal, Greater}
 use Rattle.key_order.specs.Order.{Key, cmp}
 use Rattle.slots.specs.Layout.{slot, keyOf}
-use Rattle.llrb.specs.Tree.{Entry, Tree, nil, node, left, right, get}
+use Rattle.llrb.specs.Tree.{Value, Entry, Tree, nil, node, left, right, get}
 use Rattle.rb_nodes.specs.Heap.{Held, Full}
 use Rattle.rb_nodes.proofs.Heap.{top-key}
 
@@ -41,7 +41,7 @@ not-equal Greater w q = let z : _≡_ {A = ℕ} 0 1 = cc in omega arith
 
 -- ---- get goes the same way
 
-pub get-nil : (k : Key) → get k nil ≡ none
+pub get-nil : (k : Key) → get {Val = Value} k nil ≡ none
 unfolding get
 get-nil k = refl
 
