@@ -33,12 +33,6 @@ not-less Less (inr e) q = omega arith
 not-less Equal w q = let z : _≡_ {A = ℕ} 0 1 = cc in omega arith
 not-less Greater w q = let z : _≡_ {A = ℕ} 0 1 = cc in omega arith
 
-pub not-equal : (o : Ordering) → OneOf (0 ∷ 2 ∷ []) (tagOf the-type o) → o ≡ Equal → ⊥
-not-equal Equal (inl e) q = omega arith
-not-equal Equal (inr e) q = omega arith
-not-equal Less w q = let z : _≡_ {A = ℕ} 0 1 = cc in omega arith
-not-equal Greater w q = let z : _≡_ {A = ℕ} 0 1 = cc in omega arith
-
 -- ---- get goes the same way
 
 pub get-nil : (k : Key) → get {Val = Value} k nil ≡ none
