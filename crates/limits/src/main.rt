@@ -4,9 +4,9 @@ mod orders;
 mod report;
 
 use answers::Found;
+use answers::Saved;
 use report::say;
 use text::words::is;
-use witness::Saved;
 
 // ---- capacities
 

@@ -50,7 +50,7 @@ use Rattle.witness_walks.specs.Bounds.{walkBetween, rangeWalk}
 use Rattle.witness_walks.proofs.Reached.{Reached}
 use Rattle.witness_walks.proofs.Writing.{part-bytes}
 use Rattle.witness_walks.proofs.Walking.{PlacedEnd, walk-full, walk-range, walk-lookup}
-use Rattle.witness.specs.declared.Saved.{Saved}
+use Rattle.answers.specs.declared.Saved.{Saved}
 use Rattle.witness.specs.Putting.{Puts, Laid, bytesBelow}
 use Rattle.witness.specs.Saving.{answered, putFront, CanSave, Saves, BoundIn, CanRange}
 
