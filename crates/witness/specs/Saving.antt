@@ -1,5 +1,4 @@
 -- What the calls answer: the number and the length beside the output's bytes at the end, as crate store has it.
--- Assumes nothing: these are definitions.
 use mathlib.Core.Path.{_≡_}
 use mathlib.Core.Bool.{cond}
 use mathlib.Core.List.{List}

@@ -188,7 +188,6 @@ fn put_middle(s: &[u8], n: usize, middle: Middle, out: &mut [u8], at: usize) -> 
             let d = fork_hash(&m, digest(s, slots::right(s, n)));
             put_piece(out, at, PRUNED, &d)
         }
-        Middle::Whole => put_piece(out, at, PRUNED, digest(s, n)),
     }
 }
 
@@ -199,7 +198,6 @@ fn middle_len(s: &[u8], n: usize, middle: Middle) -> usize
     match middle {
         Middle::Entry(what) => shown_len(s, n, what),
         Middle::Both => 34,
-        Middle::Whole => 34,
     }
 }
 

@@ -7,19 +7,15 @@ use Rattle.witness_walks.proofs.compare_keys.Lts as lts
 use Rattle.key_order.proofs.compare.Reads as compare-reads
 use Rattle.slots.proofs.key.Reads as key-reads
 
--- src/lib.rt:357:13
 key-requires : tie.Need-key-requires
 key-requires c κs = search needs
 
--- src/lib.rt:357:24
 key-requires-2 : tie.Need-key-requires-2
 key-requires-2 c κs = search needs
 
--- src/lib.rt:357:5
 compare-requires : tie.Need-compare-requires
 compare-requires c κs = search needs
 
--- src/lib.rt:352:1
 returns : tie.Need-returns
 returns c =
     c .compare .ensures ∙ rw (c .before .before .key .ensures, c .before .key2 .ensures)
