@@ -1,5 +1,4 @@
 -- What the calls hand back, as the answers of crate store's specs: field by field the same.
--- Assumes nothing: these are definitions.
 use mathlib.Core.List.{List}
 use Prim.Native.Nat.{ℕ}
 use Rattle.store.specs.Answers as answers
