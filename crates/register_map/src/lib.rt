@@ -15,8 +15,7 @@ use answers::Saved;
 use answers::Told;
 use hash_tree::Rebuilt;
 use judge::judge;
-use key_order::Ordering;
-use key_order::compare;
+use key_order::below;
 use lookup::LookedUp;
 use parts::STATE;
 use rb_tree::Changed;
@@ -26,7 +25,7 @@ use sha256::Hashed;
 ghost use mathlib.Core.Path.{_≡_};
 ghost use Rattle.sha256.specs.Hashed.{hashed};
 ghost use Rattle.hash_tree.specs.Whole.{rebuilt};
-ghost use Rattle.store.specs.Calls.{createAnswer, isEmptyAnswer, countAnswer, rootHashAnswer, getAnswer, firstEntryAnswer, nextEntryAnswer, insertAnswer, modifyAnswer, deleteAnswer, reversed, asHashTreeAnswer, keysAnswer, witnessAnswer, keyRangeAnswer, valueRangeAnswer, keysWithPrefixAnswer};
+ghost use Rattle.store.specs.Calls.{createAnswer, isEmptyAnswer, countAnswer, rootHashAnswer, getAnswer, firstEntryAnswer, nextEntryAnswer, insertAnswer, modifyAnswer, deleteAnswer, asHashTreeAnswer, keysAnswer, witnessAnswer, keyRangeAnswer, valueRangeAnswer, keysWithPrefixAnswer};
 ghost use Rattle.answers.specs.Answers.{noEntry, unwritten, answered, changedOf};
 ghost use Rattle.search.specs.Search.{answerOf};
 ghost use Rattle.lookup.specs.Answer.{lookupAnswer};
@@ -205,16 +204,6 @@ fn refuse(number: usize) -> Saved
     Saved { number, size: 0 }
 }
 
-fn above(first: &[u8], last: &[u8]) -> bool
-    ensures { λ r. ⌜ r ≡ reversed (now (first .entry)) (now (last .entry)) ⌝ }
-{
-    match compare(first, last) {
-        Ordering::Less => false,
-        Ordering::Equal => false,
-        Ordering::Greater => true,
-    }
-}
-
 // Every key with its value.
 pub fn as_hash_tree(store: &[u8], out: &mut [u8]) -> Saved
     ensures { λ r. ⌜ answered r (now (out .exit)) ≡ asHashTreeAnswer (now (store .entry)) (now (out .entry)) ⌝ }
@@ -260,7 +249,7 @@ pub fn key_range(store: &[u8], first: &[u8], last: &[u8], out: &mut [u8]) -> Sav
     if MAX_KEY < last.len() {
         return refuse(LONG_KEY);
     }
-    if above(first, last) {
+    if below(last, first) {
         return refuse(REVERSED);
     }
     witness::key_range(store, first, last, out)
@@ -278,7 +267,7 @@ pub fn value_range(store: &[u8], first: &[u8], last: &[u8], out: &mut [u8]) -> S
     if MAX_KEY < last.len() {
         return refuse(LONG_KEY);
     }
-    if above(first, last) {
+    if below(last, first) {
         return refuse(REVERSED);
     }
     witness::value_range(store, first, last, out)
