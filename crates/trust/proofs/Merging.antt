@@ -1,11 +1,11 @@
 -- TWO WITNESSES OF ONE ROOT MERGE, or a message hashed for the one collides with one hashed for the other: so 15 says that the digests differ. Two witnesses that tell the
 -- truth of one store merge, to one that does; so any two that our own calls wrote of a sound store do.
-use Prim.Native.Nat.{ℕ}
-use mathlib.Core.Path.{_≡_, refl, sym, ap, subst, _∙_}
+use Prim.Native.Nat.{ℕ, _≤_}
+use mathlib.Core.Path.{_≡_, refl, sym, ap, _∙_}
 use mathlib.Core.Bool.{Bool, true, false, cond}
 use mathlib.Core.Logic.{_⊎_, inl, inr}
 use mathlib.Core.List.{List, [], _∷_, _++_}
-use mathlib.Core.Option.{Option, none, some}
+use mathlib.Core.Option.{none}
 use native.Mathlib.Omega.{arith}
 use lib.ListN.{length, drop}
 use lib.Dec.{ltb}
@@ -16,9 +16,13 @@ use Rattle.hash_tree.specs.Written.{write, Lawful, maxDepth}
 use Rattle.hash_tree.specs.Parse.{Parsed, Got, Bad, parse, Bytes}
 use Rattle.hash_tree.specs.Whole.{rebuilt, accepted, refused, alone}
 use Rattle.hash_tree.specs.Promises.{accepts, zero-or-refused}
-use Rattle.merge.specs.Merge.{merged, Merges}
-use Rattle.merge.specs.Answer.{Written as Merged, whole, refusal, putFront, ofMerge, ofBoth, mergeAnswer}
-use Rattle.merge.proofs.Laws.{merged-own, merged-lawful, merges-merged, merges-digest, merges-lawful}
+use Rattle.hash_tree.specs.Prune.{Prunes}
+use Rattle.lookup.specs.declared.Looked.the-variants as looked
+use Rattle.lookup.specs.Answer.{lookupAnswer}
+use Rattle.lookup.specs.Lookup.{WellFormed}
+use Rattle.merge.specs.Merge.{merged}
+use Rattle.merge.specs.Answer.{Written as Merged, whole, refusal, putFront, ofMerge, mergeAnswer}
+use Rattle.merge.proofs.Laws.{merged-own, merged-lawful, merged-prunes, merges-merged, merges-digest, merges-lawful}
 use Rattle.merge.proofs.Promises.{merge-trees}
 use Rattle.store.specs.Answers.{Written}
 use Rattle.store.specs.Sound.{Sound}
@@ -28,6 +32,7 @@ use Rattle.trust.specs.Truth.{wholeOf, Reads, Truth}
 use Rattle.trust.specs.Ours.{bytesOf, Wrote}
 use Rattle.trust.proofs.Binding.{then}
 use Rattle.trust.proofs.Files.{cut-truth, two-files}
+use Rattle.trust.proofs.Opening.{silent-too}
 
 -- what is put at the front of an output, if there is room, is never refused with 15
 pub not-15 : (out w : List ℕ) → putFront out w .number ≡ 15 → ⊥
@@ -99,22 +104,32 @@ fifteen v w out bv bw n e =
 
 -- ---- of one store
 
--- THE MERGE OF TWO WITNESSES OF THE STORE s: its tree, which tells the truth of s
+-- THE MERGE OF TWO WITNESSES OF THE STORE s: its tree, which tells the truth of s, and answers for both: it is silent of a key only if both are
 pub record JoinsTrue (s v w out : List ℕ) : Type 0 where
   pub tree : HashTree
   pub answer : mergeAnswer v w out ≡ putFront out (write tree)
   pub truth : Truth s tree (write tree)
+  pub known : (k : Key) → length k ≤ 48 → lookupAnswer k (write tree) .looked ≡ looked.Unknown
+      → (lookupAnswer k v .looked ≡ looked.Unknown) × (lookupAnswer k w .looked ≡ looked.Unknown)
   pub never15 : mergeAnswer v w out .number ≡ 15 → ⊥
+
+-- of a file by the tree that it is
+silent-in : (v : List ℕ) (x t : HashTree) → Reads v x → WellFormed x → Prunes x t → Lawful maxDepth t → WellFormed t → (k : Key) → length k ≤ 48
+    → lookupAnswer k (write t) .looked ≡ looked.Unknown → lookupAnswer k v .looked ≡ looked.Unknown
+silent-in v x t r wx p l wt k n e = rw (r .0) (silent-too x t p (r .1) l wx wt k n e)
 
 pub truths-merge : (s : List ℕ) → Sound s → (x y : HashTree) (v w : List ℕ) → Truth s x v → Truth s y w → (out : List ℕ) → JoinsTrue s v w out
 truths-merge s h x y v w p q out =
     let m = merged-own x y (wholeOf s) (p .cut) (q .cut) in
+    let d = merged-prunes x y (m .0) (m .1) in
     let l = merged-lawful maxDepth x y (m .0) (p .tells .reads .1) (q .tells .reads .1) (m .1) in
     let e = merge-files v w out x y (p .tells .reads) (q .tells .reads) ∙ ap (ofMerge out) (m .1) in
+    let t = cut-truth (sound-decodes h) (m .0) l (m .2) in
     record {
       tree = m .0;
       answer = e;
-      truth = cut-truth (sound-decodes h) (m .0) l (m .2);
+      truth = t;
+      known = λ k n u. (silent-in v x (m .0) (p .tells .reads) (p .honest .wellFormed) (d .0) l (t .honest .wellFormed) k n u, silent-in w y (m .0) (q .tells .reads) (q .honest .wellFormed) (d .1) l (t .honest .wellFormed) k n u);
       never15 = λ n. not-15 out (write (m .0)) (ap (λ (r : Merged). r .number) (sym e) ∙ n);
     }
 
