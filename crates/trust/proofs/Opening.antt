@@ -10,11 +10,10 @@ use Rattle.hash_tree.specs.Written.{write, Lawful, maxDepth}
 use Rattle.hash_tree.specs.Prune.{Prunes, cut, same, fork, labeled}
 use Rattle.lookup.specs.declared.Looked.{Looked}
 use Rattle.lookup.specs.declared.Looked.the-variants as looked
-use Rattle.lookup.specs.declared.LookedUp.{LookedUp}
 use Rattle.lookup.specs.Answer.{lookupAnswer}
 use Rattle.lookup.specs.Flatten.{flatten}
 use Rattle.lookup.specs.Lookup.{Found, Absent, between, before, after, nothing, leaf, Known, Says, WellFormed}
-use Rattle.lookup.proofs.Promises.{tree-says, well-answered}
+use Rattle.lookup.proofs.Promises.{says-answered, known-answered}
 
 -- the list M is L with what is hidden opened: each Pruned stands for a stretch, maybe none; labels and Leafs stay
 abbrev Opens : List HashTree → List HashTree → Type 0
@@ -98,15 +97,8 @@ known-or k w L looked.Unknown h f = refl
 known-or k w L looked.Nothing h f = absurd h
 
 module _ (u t : HashTree) (p : Prunes u t) (lu : Lawful maxDepth u) (lt : Lawful maxDepth t) (wu : WellFormed u) (wt : WellFormed t) (k : Key) (n : length k ≤ 48) where
-  answer-says : (x : HashTree) → Lawful maxDepth x → WellFormed x → Says k (write x) (flatten x) (lookupAnswer k (write x) .looked)
-  answer-says x l w = subst (Says k (write x) (flatten x)) (sym (ap (λ (y : LookedUp). y .looked) (well-answered k x n l w))) (tree-says k x)
-
-  not-unknown : Known k (flatten t) → Says k (write t) (flatten t) looked.Unknown → ⊥
-  not-unknown (inl f) h = h .0 (f .0) (f .1)
-  not-unknown (inr a) h = h .1 a
-
   -- where the one that is cut less is silent of a key, so is the one that is cut more
   pub silent-too : lookupAnswer k (write t) .looked ≡ looked.Unknown → lookupAnswer k (write u) .looked ≡ looked.Unknown
   silent-too e =
-      known-or k (write u) (flatten u) (lookupAnswer k (write u) .looked) (answer-says u lu wu)
-      (λ c. absurd (not-unknown (opens-known k (flatten u) (flatten t) (prunes-opens p) c) (subst (Says k (write t) (flatten t)) e (answer-says t lt wt))))
+      known-or k (write u) (flatten u) (lookupAnswer k (write u) .looked) (says-answered k u n lu wu)
+      (λ c. absurd (known-answered k t n lt wt (opens-known k (flatten u) (flatten t) (prunes-opens p) c) e))
