@@ -90,12 +90,12 @@ check() { # PAGE, with rows on standard input
 check docs/PROMISES.md < <(promised)
 check docs/ARCHITECTURE.md < <(designed)
 
-# The table of forms: after each `file:line` the name that stands there.
+# The table of forms: after each file the name that stands in it.
 forms=0
-while read -r file line name; do
+while read -r file name; do
   forms=$((forms + 1))
-  sed -n "${line}p" "crates/$file" 2>/dev/null | grep -qF -e "$name" || { echo "docs/ARCHITECTURE.md: no $name in line $line of crates/$file"; gone=$((gone + 1)); }
-done < <(grep -oE '`[a-z_0-9]+/[^`]*:[0-9]+` `[^`]+`' docs/ARCHITECTURE.md | tr -d '`' | sed -E 's/:([0-9]+) / \1 /')
+  grep -qwF -e "$name" "crates/$file" 2>/dev/null || { echo "docs/ARCHITECTURE.md: no $name in crates/$file"; gone=$((gone + 1)); }
+done < <(sed -n '/^## Document 01.s table of forms/,/^## [^D]/p' docs/ARCHITECTURE.md | grep -oE '`[a-z_0-9]+/[^`]*` `[^`]+`' | tr -d '`')
 [ "$forms" -ge 20 ] || { echo "only $forms places of forms were read: has the table changed?"; gone=$((gone + 1)); }
 
 for public in crates/register_map/src/lib.rt crates/c_boundary/src/lib.rt; do

@@ -25,7 +25,7 @@ abbrev pub digestedIs : (number : ℕ) → List ℕ → answers.Digested
 digestedIs n digest = record { number = n; digest = digest }
 
 abbrev pub foundIs : (number keyAt keyLength valueAt valueLength : ℕ) → answers.Found
-foundIs n k i v j = record { number = n; keyOffset = k; keyLength = i; valueOffset = v; valueLength = j }
+foundIs n k i v j = record { number = n; «key_at» = k; «key_length» = i; «value_at» = v; «value_length» = j }
 
 abbrev pub writtenIs : (number size : ℕ) → List ℕ → answers.Written
 writtenIs n size output = record { number = n; size = size; output = output }
@@ -43,8 +43,8 @@ digestedTo digest a = digestedIs (a .number) (lent (a .number) (a .digest) diges
 
 unfoldable pub foundTo : (keyAt keyLength valueAt valueLength : ℕ) → answers.Found → answers.Found
 foundTo k i v j a =
-    foundIs (a .number) (lent (a .number) (a .keyOffset) k) (lent (a .number) (a .keyLength) i) (lent (a .number) (a .valueOffset) v)
-    (lent (a .number) (a .valueLength) j)
+    foundIs (a .number) (lent (a .number) (a .«key_at») k) (lent (a .number) (a .«key_length») i) (lent (a .number) (a .«value_at») v)
+    (lent (a .number) (a .«value_length») j)
 
 -- the output's bytes stay by the call itself
 unfoldable pub writtenTo : ℕ → answers.Written → answers.Written

@@ -1,8 +1,8 @@
 // The public calls for C (include/dampcandle.h). Each answers its number; whatever else it answers goes into what it is lent for that,
 // and a refusal leaves this as it was. A slice is a pointer and a length.
-use register_map::Found;
-use whole_store::Counted;
-use whole_store::Told;
+use answers::Counted;
+use answers::Found;
+use answers::Told;
 use witness::Saved;
 ghost use mathlib.Core.Path.{_≡_};
 ghost use mathlib.Core.List.{List};
@@ -10,15 +10,14 @@ ghost use Prim.Native.Nat.{ℕ};
 ghost use Rattle.sha256.specs.Hashed.{hashed};
 ghost use Rattle.hash_tree.specs.Whole.{rebuilt};
 ghost use Rattle.store.specs.Calls.{createAnswer, isEmptyAnswer, countAnswer, rootHashAnswer, getAnswer, firstEntryAnswer, nextEntryAnswer, insertAnswer, modifyAnswer, deleteAnswer, asHashTreeAnswer, keysAnswer, witnessAnswer, keyRangeAnswer, valueRangeAnswer, keysWithPrefixAnswer};
-ghost use Rattle.whole_store.specs.Answers.{toldOf, countedOf, changedOf};
+ghost use Rattle.answers.specs.Answers.{changedOf};
 ghost use Rattle.witness.specs.Saving.{answered};
-ghost use Rattle.register_map.specs.Answers.{foundOf};
 ghost use Rattle.c_boundary.specs.Lent.{toldIs, toldTo, countedIs, countedTo, digestedIs, digestedTo, foundIs, foundTo, writtenIs, writtenTo, rebuiltOf, hashedOf};
 
 // ---- what is lent for an answer: filled if the number is 0
 
 fn put_yes(told: Told, yes: &mut bool) -> usize
-    ensures { λ r. ⌜ toldIs r (now (yes .exit)) ≡ toldTo (now (yes .entry)) (toldOf told) ⌝ }
+    ensures { λ r. ⌜ toldIs r (now (yes .exit)) ≡ toldTo (now (yes .entry)) told ⌝ }
 {
     if told.number == 0 {
         *yes = told.yes;
@@ -27,7 +26,7 @@ fn put_yes(told: Told, yes: &mut bool) -> usize
 }
 
 fn put_count(counted: Counted, count: &mut usize) -> usize
-    ensures { λ r. ⌜ countedIs r (now (count .exit)) ≡ countedTo (now (count .entry)) (countedOf counted) ⌝ }
+    ensures { λ r. ⌜ countedIs r (now (count .exit)) ≡ countedTo (now (count .entry)) counted ⌝ }
 {
     if counted.number == 0 {
         *count = counted.count;
@@ -51,7 +50,7 @@ fn put_places(
     value_at: &mut usize,
     value_length: &mut usize,
 ) -> usize
-    ensures { λ r. ⌜ foundIs r (now («key_at» .exit)) (now («key_length» .exit)) (now («value_at» .exit)) (now («value_length» .exit)) ≡ foundTo (now («key_at» .entry)) (now («key_length» .entry)) (now («value_at» .entry)) (now («value_length» .entry)) (foundOf found) ⌝ }
+    ensures { λ r. ⌜ foundIs r (now («key_at» .exit)) (now («key_length» .exit)) (now («value_at» .exit)) (now («value_length» .exit)) ≡ foundTo (now («key_at» .entry)) (now («key_length» .entry)) (now («value_at» .entry)) (now («value_length» .entry)) found ⌝ }
 {
     if found.number == 0 {
         *key_at = found.key_at;

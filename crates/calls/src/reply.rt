@@ -1,6 +1,6 @@
 // Lines of answer, on standard output.
+use answers::Found;
 use libc::STDOUT_FILENO;
-use register_map::Found;
 use text::print::say;
 use text::print::say_hex;
 use text::words::within;

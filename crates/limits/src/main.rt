@@ -3,7 +3,7 @@
 mod orders;
 mod report;
 
-use register_map::Found;
+use answers::Found;
 use report::say;
 use text::words::is;
 use witness::Saved;

@@ -1,6 +1,6 @@
 // One map, made in two orders: the same entries, and another root digest.
 use crate::report::say;
-use register_map::Found;
+use answers::Found;
 use text::words::is;
 
 // A store of its own entries, each key with itself as its value, in the order given.

@@ -21,7 +21,7 @@ use Rattle.rb_tree.specs.declared.Inserted.the-variants as insert
 use Rattle.rb_tree.specs.declared.Changed.{Changed}
 use Rattle.rb_tree.specs.declared.Changed.the-variants as change
 use Rattle.rb_tree.specs.Stores.{AfterInsert, AfterChange}
-use Rattle.whole_store.specs.Answers.{changedOf}
+use Rattle.answers.specs.Answers.{changedOf}
 use Rattle.register_map.specs.Answers.{insertedNumber, changedNumber}
 use Rattle.register_map.proofs.Refusing.{not-sound}
 

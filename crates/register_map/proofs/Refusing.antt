@@ -13,7 +13,7 @@ use Rattle.store.specs.Decide.{onSound}
 use Rattle.store.specs.Answers.{found}
 use Rattle.store.specs.Calls.{refuse, longKey, getIn, firstIn, nextIn, getAnswer, firstEntryAnswer, nextEntryAnswer}
 use Rattle.store.proofs.Decoding.{on-sound, on-unsound}
-use Rattle.register_map.specs.Answers.{noEntry}
+use Rattle.answers.specs.Answers.{noEntry}
 
 -- ---- the outcome
 

@@ -1,5 +1,17 @@
 // The register map store: every public call of document 01. Any bytes may arrive as store, key, value, output, witness or message.
 // Each call answers a number of document 01, 0 if it is done, and is one function of what it is lent (crate store, specs/Calls).
+use answers::ABSENT;
+use answers::Counted;
+use answers::Digested;
+use answers::FULL;
+use answers::Found;
+use answers::LONG_KEY;
+use answers::LONG_VALUE;
+use answers::MAX_KEY;
+use answers::MAX_VALUE;
+use answers::NOT_SOUND;
+use answers::REVERSED;
+use answers::Told;
 use hash_tree::Rebuilt;
 use judge::judge;
 use key_order::Ordering;
@@ -8,43 +20,15 @@ use rb_tree::Changed;
 use rb_tree::Inserted;
 use search::Place;
 use sha256::Hashed;
-use whole_store::Counted;
-use whole_store::Digested;
-use whole_store::Told;
 use witness::Saved;
 ghost use mathlib.Core.Path.{_≡_};
 ghost use Rattle.sha256.specs.Hashed.{hashed};
 ghost use Rattle.hash_tree.specs.Whole.{rebuilt};
 ghost use Rattle.store.specs.Calls.{createAnswer, isEmptyAnswer, countAnswer, rootHashAnswer, getAnswer, firstEntryAnswer, nextEntryAnswer, insertAnswer, modifyAnswer, deleteAnswer, reversed, asHashTreeAnswer, keysAnswer, witnessAnswer, keyRangeAnswer, valueRangeAnswer, keysWithPrefixAnswer};
-ghost use Rattle.whole_store.specs.Answers.{toldOf, countedOf, digestedOf, changedOf};
+ghost use Rattle.answers.specs.Answers.{noEntry, changedOf};
 ghost use Rattle.search.specs.Search.{answerOf};
 ghost use Rattle.witness.specs.Saving.{answered};
-ghost use Rattle.register_map.specs.Answers.{foundOf, noEntry, insertedNumber, changedNumber, unwritten};
-
-const NOT_SOUND: usize = 1;
-
-const LONG_KEY: usize = 2;
-
-const LONG_VALUE: usize = 3;
-
-const REVERSED: usize = 4;
-
-const FULL: usize = 5;
-
-const ABSENT: usize = 7;
-
-const MAX_KEY: usize = 48;
-
-const MAX_VALUE: usize = 64;
-
-// The number of document 01, and where in the store the key and the value of an entry lie.
-pub struct Found {
-    pub number: usize,
-    pub key_at: usize,
-    pub key_length: usize,
-    pub value_at: usize,
-    pub value_length: usize,
-}
+ghost use Rattle.register_map.specs.Answers.{insertedNumber, changedNumber, unwritten};
 
 // ---- a store as a whole
 
@@ -56,20 +40,20 @@ pub fn create(store: &mut [u8], capacity: u64) -> usize
 }
 
 pub fn is_empty(store: &[u8]) -> Told
-    ensures { λ r. ⌜ toldOf r ≡ isEmptyAnswer (now (store .entry)) ⌝ }
+    ensures { λ r. ⌜ r ≡ isEmptyAnswer (now (store .entry)) ⌝ }
 {
     whole_store::is_empty(store)
 }
 
 // How many entries there are.
 pub fn count(store: &[u8]) -> Counted
-    ensures { λ r. ⌜ countedOf r ≡ countAnswer (now (store .entry)) ⌝ }
+    ensures { λ r. ⌜ r ≡ countAnswer (now (store .entry)) ⌝ }
 {
     whole_store::count(store)
 }
 
 pub fn root_hash(store: &[u8]) -> Digested
-    ensures { λ r. ⌜ digestedOf r ≡ rootHashAnswer (now (store .entry)) ⌝ }
+    ensures { λ r. ⌜ r ≡ rootHashAnswer (now (store .entry)) ⌝ }
 {
     whole_store::root_hash(store)
 }
@@ -77,7 +61,7 @@ pub fn root_hash(store: &[u8]) -> Digested
 // ---- entries
 
 fn no_entry(number: usize) -> Found
-    ensures { λ r. ⌜ foundOf r ≡ noEntry number ⌝ }
+    ensures { λ r. ⌜ r ≡ noEntry number ⌝ }
 {
     Found {
         number,
@@ -89,7 +73,7 @@ fn no_entry(number: usize) -> Found
 }
 
 fn entry_at(place: Place) -> Found
-    ensures { λ r. ⌜ foundOf r ≡ answerOf place ⌝ }
+    ensures { λ r. ⌜ r ≡ answerOf place ⌝ }
 {
     let Place::At {
         key_at,
@@ -110,7 +94,7 @@ fn entry_at(place: Place) -> Found
 }
 
 pub fn get(store: &[u8], key: &[u8]) -> Found
-    ensures { λ r. ⌜ foundOf r ≡ getAnswer (now (key .entry)) (now (store .entry)) ⌝ }
+    ensures { λ r. ⌜ r ≡ getAnswer (now (key .entry)) (now (store .entry)) ⌝ }
 {
     if !judge(store) {
         return no_entry(NOT_SOUND);
@@ -123,7 +107,7 @@ pub fn get(store: &[u8], key: &[u8]) -> Found
 
 // The first entry in order.
 pub fn first_entry(store: &[u8]) -> Found
-    ensures { λ r. ⌜ foundOf r ≡ firstEntryAnswer (now (store .entry)) ⌝ }
+    ensures { λ r. ⌜ r ≡ firstEntryAnswer (now (store .entry)) ⌝ }
 {
     if !judge(store) {
         return no_entry(NOT_SOUND);
@@ -133,7 +117,7 @@ pub fn first_entry(store: &[u8]) -> Found
 
 // The entry of the least key above this one, whether or not this one is present.
 pub fn next_entry(store: &[u8], key: &[u8]) -> Found
-    ensures { λ r. ⌜ foundOf r ≡ nextEntryAnswer (now (key .entry)) (now (store .entry)) ⌝ }
+    ensures { λ r. ⌜ r ≡ nextEntryAnswer (now (key .entry)) (now (store .entry)) ⌝ }
 {
     if !judge(store) {
         return no_entry(NOT_SOUND);

@@ -12,6 +12,7 @@ use Rattle.witness_trees.specs.Witness as bounds
 use Rattle.store.specs.Numbers.{Absent, numberOf}
 use Rattle.store.specs.Model.{root}
 use Rattle.store.specs.Sound.{Nodes}
+use Rattle.answers.specs.Answers.{noEntry}
 use Rattle.store.specs.Answers as answers
 use Rattle.search.specs.declared.Found.{Found}
 use Rattle.search.specs.declared.Found.the-variants as found
@@ -91,5 +92,5 @@ placeOf s (found.At i) = place.At (keyAt (length s) i) (slot s i .keyLength) (va
 
 -- the number and the values that a place stands for: nothing is 7
 abbrev pub answerOf : Place → answers.Found
-answerOf place.Nothing = record { number = numberOf Absent; keyOffset = 0; keyLength = 0; valueOffset = 0; valueLength = 0 }
-answerOf (place.At k n v m) = record { number = 0; keyOffset = k; keyLength = n; valueOffset = v; valueLength = m }
+answerOf place.Nothing = noEntry (numberOf Absent)
+answerOf (place.At k n v m) = record { number = 0; «key_at» = k; «key_length» = n; «value_at» = v; «value_length» = m }

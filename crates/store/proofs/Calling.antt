@@ -10,7 +10,7 @@ use lib.ListN.{length}
 use borrow.Author.Tests.{ltb-false, eqb-false}
 use Rattle.key_order.specs.Order.{Key}
 use Rattle.llrb.specs.Tree.{Value, Entry, get}
-use Rattle.store.specs.Numbers.{Refusal, NotSound, LongKey, LongValue, Reversed, Full, NoRoom, Absent, BadCapacity, Malformed, LongMessage, numberOf, Outcome, refused, done}
+use Rattle.store.specs.Numbers.{Refusal, NotSound, LongKey, LongValue, Reversed, Full, NoRoom, Absent, BadCapacity, Malformed, LongMessage, IllFormed, NotCbor, BadLog, BadPath, Unlike, numberOf, Outcome, refused, done}
 use Rattle.store.specs.Model.{Model, inserted, modified, deleted}
 use Rattle.store.specs.Sound.{Lawful}
 use Rattle.store.specs.Calls.{refuse, longKey, longValue, isNone, noFreeSlot, insertIn, modifyIn, deleteIn}
@@ -29,6 +29,11 @@ never-zero Absent = refl
 never-zero BadCapacity = refl
 never-zero Malformed = refl
 never-zero LongMessage = refl
+never-zero IllFormed = refl
+never-zero NotCbor = refl
+never-zero BadLog = refl
+never-zero BadPath = refl
+never-zero Unlike = refl
 
 -- ---- an edit that is done
 

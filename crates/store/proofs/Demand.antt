@@ -1,13 +1,14 @@
 -- DEMAND 3, proved of every history from a fresh store of any capacity.
 -- Assumes nothing.
 use mathlib.Core.Path.{_≡_, refl, sym, ap, subst, _∙_}
-use mathlib.Core.Bool.{true, false}
+use mathlib.Core.Bool.{Bool, true, false}
 use mathlib.Core.List.{List, [], _∷_}
 use mathlib.Core.Option.{Option, none, some, Option·map}
 use Prim.Native.Nat.{ℕ, _≤_}
 use native.Mathlib.Omega.{arith}
+use lib.Dec.{eqb}
 use lib.ListN.{length}
-use borrow.Author.Tests.{le-ltb}
+use borrow.Author.Tests.{le-ltb, ne-eqb}
 use Rattle.key_order.specs.declared.Ordering.{Ordering}
 use Rattle.key_order.specs.declared.Ordering.the-variants.{Less, Equal, Greater}
 use Rattle.key_order.specs.Order.{Key, cmp, pick}
@@ -15,20 +16,21 @@ use Rattle.key_order.proofs.Laws.{gt-lt}
 use Rattle.slots.specs.declared.Header.{Header}
 use Rattle.slots.specs.Layout.{header}
 use Rattle.hash_tree.specs.Written.{write}
-use Rattle.llrb.specs.Tree.{Value, Entry, entries, size, get}
+use Rattle.llrb.specs.Tree.{Value, Entry, Tree, entries, size, get}
 use Rattle.llrb.specs.Map.{pairs, find, put, change, drop}
 use Rattle.llrb.specs.Digests.{rootHash}
 use Rattle.llrb.proofs.History.{insert-pairs, modify-pairs, delete-pairs}
 use Rattle.llrb.proofs.Maps.{value-find}
-use Rattle.witness_trees.specs.Witness.{keyRange}
-use Rattle.witness_trees.specs.Rules.{Le}
+use Rattle.witness_trees.specs.Witness.{keyRange, keysOnly}
+use Rattle.witness_trees.specs.Rules.{Le, keysOf, rangeRule}
+use Rattle.witness_trees.proofs.Calls.{key-range-is}
 use Rattle.witness_trees.proofs.Laws.{key-range-witness, key-range-leaves}
 use Rattle.store.specs.Numbers.{NotSound, Outcome, refused, done}
 use Rattle.store.specs.Model.{Model, head, fresh, inserted, modified, deleted}
 use Rattle.store.specs.Sound.{Lawful, Represents}
-use Rattle.store.specs.Answers.{counted, digested}
-use Rattle.store.specs.Calls.{reversed, ofRange, countAnswer, getAnswer, rootHashAnswer, keyRangeAnswer}
-use Rattle.store.specs.History.{Edit, storeAfter, accepted, lastValue, mapAfter, modelAfter}
+use Rattle.store.specs.Answers.{told, counted, Digested, digested}
+use Rattle.store.specs.Calls.{isNone, reversed, ofRange, isEmptyAnswer, countAnswer, getAnswer, rootHashAnswer, keyRangeAnswer}
+use Rattle.store.specs.History.{Edit, storeAfter, accepted, lastValue, mapAfter, firstPair, modelFrom, modelAfter}
 use Rattle.store.specs.Demand.{Lies, KeyRangeShown, Demand3}
 use Rattle.store.proofs.Decoding.{decoded, live-and-free, on-sound}
 use Rattle.store.proofs.Operating.{tree-lawful}
@@ -36,8 +38,8 @@ use Rattle.store.proofs.Calling.{Done, newly, again, changes, goes}
 use Rattle.store.proofs.Running.{model-lawful, store-holds, Step, stays, moves, step}
 use Rattle.store.proofs.Histories.{map-after, live-after}
 use Rattle.store.proofs.Replacing.{insert-replaces, modify-replaces}
-use Rattle.store.proofs.Reading.{get-lies, get-absent}
-use Rattle.store.proofs.Witnessing.{witnesses-rebuild, fills}
+use Rattle.store.proofs.Reading.{get-lies, get-absent, first-visits, next-visits, follow-visits}
+use Rattle.store.proofs.Witnessing.{shown-lawful, witnesses-rebuild, fills}
 
 -- ---- the map as a list
 
@@ -47,6 +49,14 @@ done-pairs {m = m} h g (newly {k = k} {v = v} p q e f) i = insert-pairs (record 
 done-pairs {m = m} h g (again {k = k} {v = v} p q e) i = insert-pairs (record { slot = head (m .free); key = k; value = v }) (tree-lawful g) ∙ ap (put k v) i
 done-pairs h g (changes {k = k} {v = v} p q e) i = modify-pairs k v (tree-lawful g) ∙ ap (change k v) i
 done-pairs h g (goes {k = k} p e) i = delete-pairs k (tree-lawful g) ∙ ap (drop k) i
+
+-- the model is the one that the accepted calls make
+done-from : (capacity : ℕ) {d : Edit} {m n : Model} (h : List Edit) → Done d m n → m ≡ modelFrom capacity h → n ≡ modelFrom capacity (d ∷ h)
+unfolding modelFrom
+done-from capacity h (newly {k = k} {v = v} p q e f) i = ap (inserted k v) i
+done-from capacity h (again {k = k} {v = v} p q e) i = ap (inserted k v) i
+done-from capacity h (changes {k = k} {v = v} p q e) i = ap (modified k v) i
+done-from capacity h (goes {k = k} p e) i = ap (deleted k) i
 
 -- no edit changes the capacity
 done-capacity : {d : Edit} {m n : Model} → Done d m n → n .capacity ≡ m .capacity
@@ -59,9 +69,23 @@ done-capacity (goes p e) = refl
 -- ---- a key range
 
 -- the root digest that is answered
-root-hash : {s : List ℕ} {m : Model} → Represents s m → rootHashAnswer s .digest ≡ rootHash (m .tree)
+root-is : {s : List ℕ} {m : Model} → Represents s m → rootHashAnswer s ≡ record { number = 0; digest = rootHash (m .tree) }
 unfolding rootHashAnswer
-root-hash a = ap (λ (o : Outcome (List ℕ)). digested o .digest) (on-sound a (λ m. done (rootHash (m .tree))) (refused NotSound))
+root-is a = ap digested (on-sound a (λ m. done (rootHash (m .tree))) (refused NotSound))
+
+root-hash : {s : List ℕ} {m : Model} → Represents s m → rootHashAnswer s .digest ≡ rootHash (m .tree)
+root-hash a = ap (λ (d : Digested). d .digest) (root-is a)
+
+empty-is : {s : List ℕ} {m : Model} → Represents s m → isEmptyAnswer s ≡ record { number = 0; yes = isNone (firstPair (pairs (entries (m .tree)))) }
+unfolding isEmptyAnswer size
+empty-is {m = m} a = ap told (on-sound a (λ m. done (eqb (size (m .tree)) 0)) (refused NotSound)) ∙ ap (λ (b : Bool). told (done b)) (at (m .tree))
+  where
+    none-in : (L : List Entry) → eqb (length L) 0 ≡ isNone (firstPair (pairs L))
+    none-in [] = refl
+    none-in (e ∷ L) = ne-eqb (length (e ∷ L)) 0 (λ z. omega arith)
+
+    at : (t : Tree) → eqb (size t) 0 ≡ isNone (firstPair (pairs (entries t)))
+    at t = none-in (entries t)
 
 count-is : {s : List ℕ} {m : Model} → Represents s m → countAnswer s ≡ record { number = 0; count = size (m .tree) }
 unfolding countAnswer
@@ -90,6 +114,8 @@ module _ {s : List ℕ} {m : Model} (a : Represents s m) (first last : Key) (out
         number = f .number;
         rebuilds = rw (f .bytes, root-hash a) (witnesses-rebuild (a .lawful) .keyRange first last o);
         tree = keyRange first last t;
+        lawful = rw (key-range-is first last t (a .lawful .ordered) o) (shown-lawful (rangeRule first last (keysOf (entries t)) keysOnly) (a .lawful));
+        size = f .size;
         bytes = f .bytes;
         labelled = w .labelled;
         valued = key-range-leaves first last t (a .lawful .ordered) o;
@@ -111,6 +137,19 @@ module _ (capacity : ℕ) (low : 1 ≤ capacity) (high : capacity ≤ 1024) wher
           → pairs (entries (modelAfter capacity (d ∷ h) .tree)) ≡ mapAfter (accepted capacity (d ∷ h))
       at (stays e f) i = rw (e, f) i
       at (moves c f) i = rw f (done-pairs (accepted capacity h) (model-lawful capacity low high h) c i)
+
+  from-start : modelAfter capacity [] ≡ modelFrom capacity (accepted capacity [])
+  unfolding modelAfter accepted modelFrom
+  from-start = refl
+
+  pub model-from : (h : List Edit) → modelAfter capacity h ≡ modelFrom capacity (accepted capacity h)
+  model-from [] = from-start
+  model-from (d ∷ h) = at (step capacity low high d h) (model-from h)
+    where
+      at : Step capacity low high d h → modelAfter capacity h ≡ modelFrom capacity (accepted capacity h)
+          → modelAfter capacity (d ∷ h) ≡ modelFrom capacity (accepted capacity (d ∷ h))
+      at (stays e f) i = rw (e, f) i
+      at (moves c f) i = rw f (done-from capacity (accepted capacity h) c i)
 
   capacity-start : modelAfter capacity [] .capacity ≡ capacity
   unfolding modelAfter fresh
@@ -149,6 +188,12 @@ module _ (capacity : ℕ) (low : 1 ≤ capacity) (high : capacity ≤ 1024) wher
         last = λ key. ap (find key) (sym (pairs-after h)) ∙ sym (value-find key (tree-lawful g)) ∙ map-after capacity low high h key;
         found = λ key value l. let e = present h key value l in subst (λ (v : Value). Lies (storeAfter capacity h) key v (getAnswer key (storeAfter capacity h))) (e .2) (get-lies a key (e .0) (e .1));
         missing = λ key p l. get-absent a key p (no-entry (get key (modelAfter capacity h .tree)) (map-after capacity low high h key ∙ l));
+        model = d ∙ model-from h;
+        root = root-is a ∙ ap (λ (x : Model). digested (done (rootHash (x .tree)))) (model-from h);
+        first = rw (← pairs-after h) (first-visits a);
+        follows = λ L R p e. follow-visits a L R p (pairs-after h ∙ e);
+        next = λ key p. rw (← pairs-after h) (next-visits a key p);
+        isEmpty = rw (← pairs-after h) (empty-is a);
         live = rw n (live-after capacity low high h);
         free = rw (n, d) (live-and-free g ∙ capacity-after h);
         counted = rw n (count-is a);

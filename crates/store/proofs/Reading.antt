@@ -4,8 +4,8 @@ use mathlib.Core.Path.{_≡_, refl, sym, ap, subst, _∙_}
 use mathlib.Core.Bool.{Bool, true, false, cond, true≢false}
 use mathlib.Core.Logic.{_⊎_, inl, inr}
 use mathlib.Core.List.{List, [], _∷_, _++_}
-use mathlib.Core.Option.{none, some}
-use Prim.Native.Nat.{ℕ, _≤_}
+use mathlib.Core.Option.{Option, none, some, Option·map}
+use Prim.Native.Nat.{ℕ, _+_, _≤_}
 use native.Mathlib.Omega.{arith}
 use lib.Dec.{eqb, lit≤}
 use lib.ListN.{length, drop}
@@ -15,11 +15,14 @@ use Rattle.key_order.specs.declared.Ordering.{Ordering}
 use Rattle.key_order.specs.declared.Ordering.the-variants.{Less, Equal, Greater}
 use Rattle.key_order.specs.Order.{Key, cmp, pick}
 use Rattle.slots.specs.declared.Header.{Header}
-use Rattle.slots.specs.Layout.{header, Slot, slot, keyOf, valueOf, keyAt, valueAt, part, room, place, freeSlot}
+use Rattle.slots.specs.Layout.{HasSlot, KeyOf, ValueOf, header, Slot, slot, keyOf, valueOf, keyAt, valueAt, part, room, place, freeSlot}
+use Rattle.slots.proofs.Rooms.{fits}
 use Rattle.slots.proofs.Writing.{node-key, node-value}
 use Rattle.llrb.specs.Tree.{Entry, Tree, node, entries, size, get}
 use Rattle.llrb.specs.Path.{Sub, whole, on-left, on-right}
 use Rattle.llrb.specs.Iterate.{headOf, firstAbove}
+use Rattle.llrb.specs.Map.{Pair, pair, pairs}
+use Rattle.llrb.proofs.Iterate.{above-follows}
 use Rattle.llrb.proofs.Height.{lawful-height, height-20}
 use Rattle.store.specs.Counts.{occurs}
 use Rattle.store.specs.Deciding.{le?}
@@ -30,11 +33,12 @@ use Rattle.store.specs.Sound.{Represents}
 use Rattle.store.specs.Encode.{inChain}
 use Rattle.store.specs.Answers.{found}
 use Rattle.store.specs.Calls.{getIn, firstIn, nextIn, getAnswer, firstEntryAnswer, nextEntryAnswer}
-use Rattle.store.specs.Demand.{Lies}
+use Rattle.store.specs.History.{firstPair, pairAbove}
+use Rattle.store.specs.Demand.{Lies, Visits}
 use Rattle.store.specs.Words.{Words}
 use Rattle.store.proofs.Decoding.{once-sum, live-and-free, on-sound}
 use Rattle.store.proofs.Operating.{tree-lawful}
-use Rattle.store.proofs.Seats.{sub-nodes, Seat, missing, seated, seat, not-seated, laid-shows, tree-within, chain-within, tree-once, chain-once}
+use Rattle.store.proofs.Seats.{sub-nodes, sub-occurs, top-occurs, Seat, missing, seated, seat, not-seated, laid-shows, tree-within, chain-within, tree-once, chain-once}
 use Rattle.store.proofs.Encoding.{sub-short, short-right}
 use Rattle.store.proofs.Replacing.{own-node, key-short}
 
@@ -82,6 +86,14 @@ module _ {s : List ℕ} {m : Model} (a : Represents s m) where
 
 -- ---- where a key and a value lie
 
+key-fits : (n i : ℕ) → HasSlot n i → keyAt n i + 48 ≤ n
+unfolding place
+key-fits n i h = fits n (KeyOf i) h
+
+value-fits : (n i : ℕ) → HasSlot n i → valueAt n i + 64 ≤ n
+unfolding place
+value-fits n i h = fits n (ValueOf i) h
+
 key-part : (s : List ℕ) (x : ℕ) → slot s x .keyLength ≤ 48 → part (keyAt (length s) x) (slot s x .keyLength) s ≡ keyOf (slot s x)
 unfolding slot room place
 key-part s x p = sym (take-take (slot s x .keyLength) 48 (drop (keyAt (length s) x) s) p)
@@ -98,8 +110,14 @@ module _ {s : List ℕ} {m : Model} (a : Represents s m) where
       let w = short-right (entries l) (e ∷ entries r) (sub-short u (a .lawful .short)) in
       let k : slot s (e .slot) .keyLength ≡ length (e .key) = ap (λ (v : Slot). v .keyLength) h in
       let n : slot s (e .slot) .valueLength ≡ length (e .value) = ap (λ (v : Slot). v .valueLength) h in
+      let b = tree-within (a .lawful) (e .slot) (omega (arith, top-occurs c e l r, sub-occurs (e .slot) u)) in
+      let i : HasSlot (length s) (e .slot) = record { low = b .0; high = omega (arith, b .1, a .lawful .most); fits = omega (arith, b .1, a .laid .len) } in
       record {
         number = refl;
+        keyLength = refl;
+        keyWithin = omega (arith, w, key-fits (length s) (e .slot) i);
+        valueLength = refl;
+        valueWithin = omega (arith, w, value-fits (length s) (e .slot) i);
         keyBytes = ap (λ (i : ℕ). part (keyAt (length s) (e .slot)) i s) (sym k) ∙ key-part s (e .slot) (omega (arith, w))
             ∙ ap (λ (v : Slot). keyOf v) h ∙ node-key c (e .key) (e .value) (root l) (root r);
         valueBytes = ap (λ (i : ℕ). part (valueAt (length s) (e .slot)) i s) (sym n) ∙ value-part s (e .slot) (omega (arith, w))
@@ -162,6 +180,39 @@ above-among k (x ∷ L) e h = at (cmp k (x .key)) h (above-among k L e)
     at Equal p i = there (i p)
     at Greater p i = there (i p)
 
+above-pairs : (k : Key) (L : List Entry) → pairAbove k (pairs L) ≡ Option·map pair (firstAbove k L)
+unfolding pairAbove firstAbove
+above-pairs k [] = refl
+above-pairs k (x ∷ L) = at (cmp k (x .key)) (above-pairs k L)
+  where
+    at : (o : Ordering) → pairAbove k (pairs L) ≡ Option·map pair (firstAbove k L)
+        → pick o (some (pair x)) (pairAbove k (pairs L)) (pairAbove k (pairs L)) ≡ Option·map pair (pick o (some x) (firstAbove k L) (firstAbove k L))
+    at Less i = refl
+    at Equal i = i
+    at Greater i = i
+
+head-pairs : (L : List Entry) → Option·map pair (headOf L) ≡ firstPair (pairs L)
+head-pairs [] = refl
+head-pairs (e ∷ L) = refl
+
+-- entries whose pairs are cut at one are cut at its entry
+record CutAt (E : List Entry) (L : List Pair) (p : Pair) (R : List Pair) : Type 0 where
+  before : List Entry
+  entry : Entry
+  after : List Entry
+  whole : E ≡ before ++ (entry ∷ after)
+  its : pair entry ≡ p
+  rest : pairs after ≡ R
+
+cut-pairs : (E : List Entry) (L : List Pair) (p : Pair) (R : List Pair) → pairs E ≡ L ++ (p ∷ R) → CutAt E L p R
+cut-pairs [] [] p R h = absurd (let z : _≡_ {A = ℕ} 0 1 = cc in omega arith)
+cut-pairs [] (x ∷ L) p R h = absurd (let z : _≡_ {A = ℕ} 0 1 = cc in omega arith)
+cut-pairs (e ∷ E) [] p R h = record { before = []; entry = e; after = E; whole = refl; its = cc; rest = cc }
+cut-pairs (e ∷ E) (x ∷ L) p R h = more (cut-pairs E L p R cc)
+  where
+    more : CutAt E L p R → CutAt (e ∷ E) (x ∷ L) p R
+    more c = record { before = e ∷ c .before; entry = c .entry; after = c .after; whole = ap (λ (z : List Entry). e ∷ z) (c .whole); its = c .its; rest = c .rest }
+
 module _ {s : List ℕ} {m : Model} (a : Represents s m) where
   pub first-lies : (e : Entry) → headOf (entries (m .tree)) ≡ some e → Lies s (e .key) (e .value) (firstEntryAnswer s)
   unfolding firstEntryAnswer firstIn
@@ -171,3 +222,36 @@ module _ {s : List ℕ} {m : Model} (a : Represents s m) where
   unfolding nextEntryAnswer nextIn
   next-lies k e p h =
       rw (on-sound a (nextIn k) (refused NotSound), le-ltb 48 (length k) p, h) (entry-lies a e (noded e (m .tree) (above-among k (entries (m .tree)) e h) .sub))
+
+  first-none : headOf (entries (m .tree)) ≡ none → firstEntryAnswer s .number ≡ 7
+  unfolding firstEntryAnswer firstIn
+  first-none h = rw (on-sound a firstIn (refused NotSound), h)
+
+  next-none : (k : Key) → length k ≤ 48 → firstAbove k (entries (m .tree)) ≡ none → nextEntryAnswer k s .number ≡ 7
+  unfolding nextEntryAnswer nextIn
+  next-none k p h = rw (on-sound a (nextIn k) (refused NotSound), le-ltb 48 (length k) p, h)
+
+  -- ---- the same of the map as a list of pairs
+
+  next-by : (k : Key) → length k ≤ 48 → (o : Option Entry) → firstAbove k (entries (m .tree)) ≡ o → Visits s (Option·map pair o) (nextEntryAnswer k s)
+  next-by k p none h = next-none k p h
+  next-by k p (some e) h = next-lies k e p h
+
+  pub first-visits : Visits s (firstPair (pairs (entries (m .tree)))) (firstEntryAnswer s)
+  first-visits = at (entries (m .tree)) refl
+    where
+      at : (L : List Entry) → entries (m .tree) ≡ L → Visits s (firstPair (pairs L)) (firstEntryAnswer s)
+      at [] h = first-none (ap headOf h)
+      at (e ∷ L) h = first-lies e (ap headOf h)
+
+  pub next-visits : (k : Key) → length k ≤ 48 → Visits s (pairAbove k (pairs (entries (m .tree)))) (nextEntryAnswer k s)
+  next-visits k p = rw (above-pairs k (entries (m .tree))) (next-by k p (firstAbove k (entries (m .tree))) refl)
+
+  pub follow-visits : (L R : List Pair) (p : Pair) → pairs (entries (m .tree)) ≡ L ++ (p ∷ R) → Visits s (firstPair R) (nextEntryAnswer (p .key) s)
+  follow-visits L R p h = at (cut-pairs (entries (m .tree)) L p R h)
+    where
+      at : CutAt (entries (m .tree)) L p R → Visits s (firstPair R) (nextEntryAnswer (p .key) s)
+      at c =
+          let w = short-right (c .before) (c .entry ∷ c .after) (rw (c .whole) at (a .lawful .short)) in
+          let f = ap (firstAbove (c .entry .key)) (c .whole) ∙ above-follows (c .before) (c .entry) (c .after) (rw (c .whole) at (a .lawful .ordered)) in
+          rw (← c .rest, ← head-pairs (c .after), ← c .its) (next-by (c .entry .key) (w .0) (headOf (c .after)) f)

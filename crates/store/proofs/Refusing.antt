@@ -28,6 +28,7 @@ counted-none (refused r) n = refl
 counted-none (done b) n = absurd (n refl)
 
 digested-none : (o : Outcome (List ℕ)) → digested o .number ≢ 0 → digested o .digest ≡ zeros 32
+unfolding zeros
 digested-none (refused r) n = refl
 digested-none (done b) n = absurd (n refl)
 

@@ -7,7 +7,8 @@ use native.Mathlib.Omega.{arith}
 use lib.ListN.{length, take, drop}
 use borrow.Author.Tests.{le-ltb, lt-ltb}
 use Rattle.hash_tree.specs.HashTree.{HashTree}
-use Rattle.hash_tree.specs.Written.{write, depth, Lengths}
+use Rattle.hash_tree.specs.Written as written
+use Rattle.hash_tree.specs.Written.{write, depth, maxDepth, Lengths}
 use Rattle.hash_tree.specs.Whole as whole
 use Rattle.hash_tree.specs.Promises.{accepts}
 use Rattle.hash_tree.specs.DigestLaws.{forkHash-length, labeledHash-length, leafHash-length}
@@ -47,12 +48,15 @@ shown-lengths f (node c e l r) a =
     (λ h. join-cases Lengths (shown f l) (item (f e) e) (shown f r)
     (λ x y. k) (λ x y. (p, k)) (λ x y. (k, q)) (λ x y u. forkHash-length _ _) (λ x y u. (p, forkHash-length _ _)) (λ x y u. (p, (k, q))))
 
+pub shown-lawful : (f : Entry → What) {m : Model} → Lawful m → written.Lawful maxDepth (shown f (m .tree))
+shown-lawful f {m} g =
+    let few : size (m .tree) ≤ 1024 = omega (arith, live-and-free g, g .most) in
+    let low : depth (shown f (m .tree)) ≤ maxDepth = omega (arith, depth-shown f (m .tree), height-20 (tree-lawful g) few) in
+    (shown-lengths f (m .tree) (g .short), low)
+
 -- so it rebuilds to the root digest
 pub shown-rebuilds : (f : Entry → What) {m : Model} → Lawful m → whole.rebuilt (write (shown f (m .tree))) ≡ whole.accepted (rootHash (m .tree))
-shown-rebuilds f {m} g =
-    let few : size (m .tree) ≤ 1024 = omega (arith, live-and-free g, g .most) in
-    let low : depth (shown f (m .tree)) ≤ 64 = omega (arith, depth-shown f (m .tree), height-20 (tree-lawful g) few) in
-    accepts (shown f (m .tree)) (shown-lengths f (m .tree) (g .short), low) ∙ ap whole.accepted (digest-shown f (m .tree))
+shown-rebuilds f {m} g = accepts (shown f (m .tree)) (shown-lawful f g) ∙ ap whole.accepted (digest-shown f (m .tree))
 
 pub witnesses-rebuild : {m : Model} → Lawful m → WitnessesRebuild (m .tree)
 witnesses-rebuild {m} g =
@@ -92,6 +96,7 @@ module _ (make : Model → Outcome HashTree) {s : List ℕ} {m : Model} (t : Has
 -- the front of the output is the witness, and the rest stays
 pub record Fills (t : HashTree) (out : List ℕ) (a : Written) : Type 0 where
   pub number : a .number ≡ 0
+  pub size : a .size ≡ length (write t)
   pub bytes : take (a .size) (a .output) ≡ write t
   pub rest : drop (a .size) (a .output) ≡ drop (a .size) out
 
@@ -99,4 +104,4 @@ pub fills : (make : Model → Outcome HashTree) {s : List ℕ} {m : Model} (t : 
     → Fills t out (witnessed make s out)
 fills make {s} {m} t out a e r =
     rw (has-room make t out a e r)
-    (record { number = refl; bytes = front (write t) (drop (length (write t)) out); rest = back (write t) (drop (length (write t)) out) })
+    (record { number = refl; size = refl; bytes = front (write t) (drop (length (write t)) out); rest = back (write t) (drop (length (write t)) out) })

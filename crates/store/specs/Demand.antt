@@ -3,13 +3,13 @@
 use mathlib.Core.Path.{_≡_}
 use mathlib.Core.Bool.{false}
 use mathlib.Core.Logic.{_≢_}
-use mathlib.Core.List.{List, []}
-use mathlib.Core.Option.{none, some}
+use mathlib.Core.List.{List, [], _∷_, _++_}
+use mathlib.Core.Option.{Option, none, some}
 use Prim.Native.Nat.{ℕ, _+_, _≤_}
 use lib.ListN.{length, take, drop}
 use Rattle.key_order.specs.Order.{Key}
 use Rattle.hash_tree.specs.HashTree.{HashTree}
-use Rattle.hash_tree.specs.Written.{write}
+use Rattle.hash_tree.specs.Written.{write, maxDepth, Lawful}
 use Rattle.hash_tree.specs.Whole as whole
 use Rattle.slots.specs.Layout.{header, slot, digestOf, part, zeros}
 use Rattle.slots.specs.Setters.{withValue}
@@ -24,8 +24,8 @@ use Rattle.witness_trees.specs.Rules.{Le, keysIn, filter, wanted}
 use Rattle.store.specs.Sound.{Digests, Sound}
 use Rattle.store.specs.Decode.{decode}
 use Rattle.store.specs.Answers.{Found, Changed, Written}
-use Rattle.store.specs.Calls.{createAnswer, isEmptyAnswer, countAnswer, rootHashAnswer, getAnswer, firstEntryAnswer, nextEntryAnswer, insertAnswer, modifyAnswer, deleteAnswer, asHashTreeAnswer, keysAnswer, witnessAnswer, keysWithPrefixAnswer, keyRangeAnswer, valueRangeAnswer}
-use Rattle.store.specs.History.{Edit, accepted, lastValue, mapAfter, newKeys, deletes}
+use Rattle.store.specs.Calls.{isNone, createAnswer, isEmptyAnswer, countAnswer, rootHashAnswer, getAnswer, firstEntryAnswer, nextEntryAnswer, insertAnswer, modifyAnswer, deleteAnswer, asHashTreeAnswer, keysAnswer, witnessAnswer, keysWithPrefixAnswer, keyRangeAnswer, valueRangeAnswer}
+use Rattle.store.specs.History.{Edit, accepted, lastValue, mapAfter, firstPair, pairAbove, modelFrom, newKeys, deletes}
 
 -- ---- demand 1: any number but 0 leaves all lent bytes as found; other numbers are 0, a yes or no is no, digests are 32 zero bytes
 
@@ -36,7 +36,7 @@ abbrev pub Unwritten : List ℕ → Written → Type 0
 Unwritten out w = w .number ≢ 0 → w ≡ record { number = w .number; size = 0; output = out }
 
 abbrev pub Nothing : Found → Type 0
-Nothing f = f .number ≢ 0 → f ≡ record { number = f .number; keyOffset = 0; keyLength = 0; valueOffset = 0; valueLength = 0 }
+Nothing f = f .number ≢ 0 → f ≡ record { number = f .number; «key_at» = 0; «key_length» = 0; «value_at» = 0; «value_length» = 0 }
 
 pub record Demand1 (s : List ℕ) : Type 0 where
   pub create : (capacity : ℕ) → Kept s (createAnswer capacity s)
@@ -74,15 +74,27 @@ pub record Replaced (key : Key) (value : Value) (s s′ : List ℕ) : Type 0 whe
 -- get and iteration answer where in the store the key and value lie, as offsets and lengths
 pub record Lies (s : List ℕ) (key : Key) (value : Value) (f : Found) : Type 0 where
   pub number : f .number ≡ 0
-  pub keyBytes : part (f .keyOffset) (f .keyLength) s ≡ key
-  pub valueBytes : part (f .valueOffset) (f .valueLength) s ≡ value
+  pub keyLength : f .«key_length» ≡ length key
+  pub keyWithin : f .«key_at» + f .«key_length» ≤ length s
+  pub keyBytes : part (f .«key_at») (f .«key_length») s ≡ key
+  pub valueLength : f .«value_length» ≡ length value
+  pub valueWithin : f .«value_at» + f .«value_length» ≤ length s
+  pub valueBytes : part (f .«value_at») (f .«value_length») s ≡ value
 
--- A key-range witness rebuilds to the root digest and labels exactly the keys from first to last, the nearest key below if first is absent, and the
--- nearest above if last is absent; it shows no value. It fills the front of the output, its length is returned, and the rest of the output stays.
+-- what iteration answers: the next pair's place, or 7 where there is none
+abbrev pub Visits : List ℕ → Option Pair → Found → Type 0
+Visits s none f = f .number ≡ 7
+Visits s (some p) f = Lies s (p .key) (p .value) f
+
+-- A key-range witness rebuilds to the root digest and labels exactly the keys from first to last, the nearest key below if first is absent,
+-- and the nearest above if last is absent; it shows no value. It fills the front of the output, its length is returned, and the rest of the
+-- output stays. The tree is lawful, so it is the one tree that these bytes are the written form of.
 pub record KeyRangeShown (s out : List ℕ) (map : List Pair) (first last : Key) (w : Written) : Type 0 where
   pub number : w .number ≡ 0
   pub rebuilds : whole.rebuilt (take (w .size) (w .output)) ≡ whole.accepted (rootHashAnswer s .digest)
   pub tree : HashTree
+  pub lawful : Lawful maxDepth tree
+  pub size : w .size ≡ length (write tree)
   pub bytes : take (w .size) (w .output) ≡ write tree
   pub labelled : labels tree ≡ filter (wanted first last (keysIn map)) (keysIn map)
   pub valued : leaves tree ≡ []
@@ -98,6 +110,15 @@ pub record Demand3 (capacity : ℕ) (s : List ℕ) (acc : List Edit) : Type 0 wh
   pub last : (key : Key) → find key (mapAfter acc) ≡ lastValue key acc
   pub found : (key : Key) (value : Value) → lastValue key acc ≡ some value → Lies s key value (getAnswer key s)
   pub missing : (key : Key) → length key ≤ 48 → lastValue key acc ≡ none → getAnswer key s .number ≡ 7
+  -- the tree and the chain are those that the accepted calls alone make, and the root digest that is answered is that tree's
+  pub model : decode s ≡ modelFrom capacity acc
+  pub root : rootHashAnswer s ≡ record { number = 0; digest = rootHash (modelFrom capacity acc .tree) }
+  -- iteration visits exactly the map that they leave, in order: the first pair, above each pair the one that follows, then 7; and above any
+  -- lawful key, present or not, the first pair that is above it
+  pub first : Visits s (firstPair (mapAfter acc)) (firstEntryAnswer s)
+  pub follows : (L R : List Pair) (p : Pair) → mapAfter acc ≡ L ++ (p ∷ R) → Visits s (firstPair R) (nextEntryAnswer (p .key) s)
+  pub next : (key : Key) → length key ≤ 48 → Visits s (pairAbove key (mapAfter acc)) (nextEntryAnswer key s)
+  pub isEmpty : isEmptyAnswer s ≡ record { number = 0; yes = isNone (firstPair (mapAfter acc)) }
   -- live: accepted inserts of absent keys less accepted deletes; live plus free is always the capacity
   pub live : header s .live + deletes acc ≡ newKeys acc
   pub free : header s .live + length (decode s .free) ≡ capacity

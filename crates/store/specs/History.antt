@@ -10,7 +10,7 @@ use Rattle.llrb.specs.Tree.{Value}
 use Rattle.llrb.specs.Map.{Pair, put, change, drop}
 use Rattle.store.specs.Counts.{one}
 use Rattle.store.specs.Numbers.{Outcome, refused, done}
-use Rattle.store.specs.Model.{Model, fresh}
+use Rattle.store.specs.Model.{Model, fresh, inserted, modified, deleted}
 use Rattle.store.specs.Encode.{encode}
 use Rattle.store.specs.Answers.{Changed}
 use Rattle.store.specs.Calls.{isNone, insertIn, modifyIn, deleteIn, insertAnswer, modifyAnswer, deleteAnswer}
@@ -52,6 +52,22 @@ mapAfter [] = []
 mapAfter (Insert k v ∷ h) = put k v (mapAfter h)
 mapAfter (Modify k v ∷ h) = change k v (mapAfter h)
 mapAfter (Delete k ∷ h) = drop k (mapAfter h)
+
+-- its first pair, and the first whose key is above this one
+abbrev pub firstPair : List Pair → Option Pair
+firstPair [] = none
+firstPair (p ∷ L) = some p
+
+unfoldable pub pairAbove : Key → List Pair → Option Pair
+pairAbove key [] = none
+pairAbove key (p ∷ L) = pick (cmp key (p .key)) (some p) (pairAbove key L) (pairAbove key L)
+
+-- the tree with its slots, and the chain: each call as it was done
+unfoldable pub modelFrom : (capacity : ℕ) → List Edit → Model
+modelFrom capacity [] = fresh capacity
+modelFrom capacity (Insert k v ∷ h) = inserted k v (modelFrom capacity h)
+modelFrom capacity (Modify k v ∷ h) = modified k v (modelFrom capacity h)
+modelFrom capacity (Delete k ∷ h) = deleted k (modelFrom capacity h)
 
 -- inserts of absent keys
 unfoldable pub newKeys : List Edit → ℕ

@@ -23,7 +23,7 @@ use Rattle.store.specs.Calls.{refuse, createAnswer, countAnswer, isEmptyAnswer,
 use Rattle.store.proofs.Decoding.{on-sound, on-unsound}
 use Rattle.judge.specs.Steps.{Within}
 use Rattle.judge.proofs.Judging.{good-of}
-use Rattle.whole_store.specs.Answers.{changedOf}
+use Rattle.answers.specs.Answers.{changedOf}
 
 -- ---- create
 

@@ -1,3 +1,2 @@
 -- The calls that concern a store as a whole.
-pub mod Answers
 pub mod Fresh

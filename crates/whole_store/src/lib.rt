@@ -1,4 +1,10 @@
 // The calls that concern a store as a whole: create, count, is_empty, root_hash.
+use answers::BAD_CAPACITY;
+use answers::Counted;
+use answers::Digested;
+use answers::MAX_CAPACITY;
+use answers::NOT_SOUND;
+use answers::Told;
 use hash_tree::empty_hash;
 use judge::judge;
 use slots::Header;
@@ -10,26 +16,8 @@ ghost use Rattle.store.specs.Model.{fresh};
 ghost use Rattle.store.specs.Encode.{encode};
 ghost use Rattle.store.specs.Calls.{createAnswer, countAnswer, isEmptyAnswer, rootHashAnswer};
 ghost use Rattle.judge.specs.Steps.{Sized};
-ghost use Rattle.whole_store.specs.Answers.{countedOf, toldOf, digestedOf, changedOf};
+ghost use Rattle.answers.specs.Answers.{changedOf};
 ghost use Rattle.whole_store.specs.Fresh.{nextOf};
-
-// The number of document 01, and how many entries there are.
-pub struct Counted {
-    pub number: usize,
-    pub count: usize,
-}
-
-// The number of document 01, and a yes or no.
-pub struct Told {
-    pub number: usize,
-    pub yes: bool,
-}
-
-// The number of document 01, and a digest.
-pub struct Digested {
-    pub number: usize,
-    pub digest: [u8; 32],
-}
 
 fn wipe(s: &mut [u8])
     ensures { λ _. ⌜ now (s .exit) ≡ zeros (length (now (s .entry))) ⌝ }
@@ -84,14 +72,14 @@ pub fn create(s: &mut [u8], capacity: u64) -> usize
     ensures { λ r. ⌜ changedOf r (now (s .exit)) ≡ createAnswer capacity (now (s .entry)) ⌝ }
 {
     if capacity == 0 {
-        return 8;
+        return BAD_CAPACITY;
     }
-    if 1024 < capacity {
-        return 8;
+    if (MAX_CAPACITY as u64) < capacity {
+        return BAD_CAPACITY;
     }
     let cap = capacity as usize;
     if s.len() != 8 + 150 * cap {
-        return 8;
+        return BAD_CAPACITY;
     }
     lay(s, cap);
     0
@@ -99,11 +87,11 @@ pub fn create(s: &mut [u8], capacity: u64) -> usize
 
 // The number of entries.
 pub fn count(s: &[u8]) -> Counted
-    ensures { λ r. ⌜ countedOf r ≡ countAnswer (now (s .entry)) ⌝ }
+    ensures { λ r. ⌜ r ≡ countAnswer (now (s .entry)) ⌝ }
 {
     if !judge(s) {
         return Counted {
-            number: 1,
+            number: NOT_SOUND,
             count: 0,
         };
     }
@@ -116,11 +104,11 @@ pub fn count(s: &[u8]) -> Counted
 
 // Whether there is no entry.
 pub fn is_empty(s: &[u8]) -> Told
-    ensures { λ r. ⌜ toldOf r ≡ isEmptyAnswer (now (s .entry)) ⌝ }
+    ensures { λ r. ⌜ r ≡ isEmptyAnswer (now (s .entry)) ⌝ }
 {
     if !judge(s) {
         return Told {
-            number: 1,
+            number: NOT_SOUND,
             yes: false,
         };
     }
@@ -142,11 +130,11 @@ fn stored_digest(s: &[u8], i: usize) -> [u8; 32]
 
 // The digest of the whole map.
 pub fn root_hash(s: &[u8]) -> Digested
-    ensures { λ r. ⌜ digestedOf r ≡ rootHashAnswer (now (s .entry)) ⌝ }
+    ensures { λ r. ⌜ r ≡ rootHashAnswer (now (s .entry)) ⌝ }
 {
     if !judge(s) {
         return Digested {
-            number: 1,
+            number: NOT_SOUND,
             digest: [0u8; 32],
         };
     }

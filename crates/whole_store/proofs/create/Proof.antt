@@ -1,5 +1,5 @@
 use mathlib.Core.Path.{ap, _∙_}
-use Rattle.whole_store.specs.Answers.{changedOf}
+use Rattle.answers.specs.Answers.{changedOf}
 use Rattle.whole_store.proofs.Answering.{none-asked, many-asked, other-length, created}
 use borrow.Author.Needs.{needs}
 use Rattle.whole_store.proofs.create.Statement.{statement}
