@@ -11,6 +11,7 @@ use Rattle.key_order.proofs.Ordering.{the-type}
 use Rattle.key_order.specs.declared.Ordering.{Ordering}
 use Rattle.key_order.specs.declared.Ordering.the-variants.{Less, Equal, Greater}
 use Rattle.key_order.specs.Order.{Key, cmp}
+use Rattle.key_order.proofs.Laws.{cmp-refl, cmp-eq}
 use Rattle.slots.specs.Layout.{slot, keyOf}
 use Rattle.llrb.specs.Tree.{Value, Entry, Tree, nil, node, left, right, get}
 use Rattle.rb_nodes.specs.Heap.{Held, Full}
@@ -31,6 +32,20 @@ not-less Less (inl e) q = omega arith
 not-less Less (inr e) q = omega arith
 not-less Equal w q = let z : _≡_ {A = ℕ} 0 1 = cc in omega arith
 not-less Greater w q = let z : _≡_ {A = ℕ} 0 1 = cc in omega arith
+
+pub not-equal : (o : Ordering) → OneOf (0 ∷ 2 ∷ []) (tagOf the-type o) → o ≡ Equal → ⊥
+not-equal Equal (inl e) q = omega arith
+not-equal Equal (inr e) q = omega arith
+not-equal Less w q = let z : _≡_ {A = ℕ} 0 1 = cc in omega arith
+not-equal Greater w q = let z : _≡_ {A = ℕ} 0 1 = cc in omega arith
+
+-- bytes that were compared: the same, or not
+module _ {o : Ordering} {d x y : List ℕ} (ed : d ≡ x) (eo : o ≡ cmp d y) where
+  pub same-yes : o ≡ Equal → x ≡ y
+  same-yes e = sym ed ∙ cmp-eq d y (sym eo ∙ e)
+
+  pub same-no : (o ≡ Equal → ⊥) → x ≡ y → ⊥
+  same-no ne e = ne (eo ∙ ap (λ (z : List ℕ). cmp z y) (ed ∙ e) ∙ cmp-refl y)
 
 -- ---- get goes the same way
 

@@ -1,7 +1,7 @@
 use borrow.Author.Needs.{needs}
 use mathlib.Core.Path.{_∙_}
 use Rattle.store.specs.Decode.{entriesBelow}
-use Rattle.rb_nodes.proofs.Refreshing.{not-equal}
+use Rattle.rb_nodes.proofs.Comparing.{not-equal}
 use Rattle.rb_nodes.proofs.Comparing.{not-less}
 use Rattle.rb_delete.proofs.Inverse.{go-full}
 use Rattle.rb_delete.proofs.Going.{go-left-way, go-right-way, l-in, l-call, l-link, l-can, l-done, r-in, r-gone, r-can-ready, r-tree, r-here, r-next, r-pulled, r-call, r-link, r-can, r-done}
