@@ -3,7 +3,7 @@ use mathlib.Core.List.{[]}
 use lib.Dec.{eqb}
 use borrow.Author.Needs.{needs}
 use borrow.Author.Tests.{eqb-false}
-use Rattle.hash_tree.specs.ParseLaws.{length-piece}
+use Rattle.hash_tree.proofs.ParseLaws.{length-piece}
 use Rattle.llrb.specs.Tree.{left, right}
 use Rattle.store.specs.Decode.{entriesBelow}
 use Rattle.witness.proofs.Lengths.{hidden-length}

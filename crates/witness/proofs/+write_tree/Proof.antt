@@ -1,7 +1,7 @@
 use mathlib.Core.List.{[]}
 use native.Mathlib.Omega.{arith}
 use borrow.Author.Needs.{needs}
-use Rattle.hash_tree.specs.ParseLaws.{length-piece}
+use Rattle.hash_tree.proofs.ParseLaws.{length-piece}
 use Rattle.llrb.specs.Tree.{left, right}
 use Rattle.store.specs.Decode.{entriesBelow}
 use Rattle.witness.proofs.Putting.{puts-none, puts-empty}

@@ -2,7 +2,7 @@ use mathlib.Core.List.{[]}
 use native.Mathlib.Omega.{arith}
 use borrow.Author.Tests.{ne-eqb}
 use Rattle.hash_tree.specs.Written.{piece}
-use Rattle.hash_tree.specs.ParseLaws.{length-piece}
+use Rattle.hash_tree.proofs.ParseLaws.{length-piece}
 use Rattle.slots.proofs.Lenses.{digest-length}
 use borrow.Author.Needs.{needs}
 use Rattle.witness.proofs.put_hidden.Statement.{statement}

@@ -2,7 +2,7 @@ use native.Mathlib.Omega.{arith}
 use Rattle.slots.specs.Layout.{slot, keyOf, valueOf}
 use Rattle.hash_tree.specs.HashTree.{leafHash}
 use Rattle.hash_tree.specs.Written.{piece}
-use Rattle.hash_tree.specs.DigestLaws.{leafHash-length}
+use Rattle.hash_tree.proofs.DigestLaws.{leafHash-length}
 use Rattle.witness.proofs.Lengths.{key-short, value-short, hide-bytes, label-bytes, show-bytes, data-length}
 use Rattle.witness.proofs.Putting.{puts-then}
 use Rattle.witness.proofs.Stepping.{front, rest}

@@ -1,4 +1,4 @@
--- Digests are 32 bytes. Assumes nothing.
+-- Digests are 32 bytes.
 use Prim.Native.Nat.{ℕ}
 use mathlib.Core.Path.{_≡_}
 use mathlib.Core.List.{List}

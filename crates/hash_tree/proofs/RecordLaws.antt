@@ -1,4 +1,4 @@
--- The laws of a record: what `recordOf` says, read back as facts; the same at a place of a slice, in the code's words. Assumes nothing.
+-- The laws of a record: what `recordOf` says, read back as facts; the same at a place of a slice, in the code's words.
 use Prim.Native.Nat.{ℕ, _+_, _-_, _*_, _/_, _%_, _<_, _≤_}
 use mathlib.Core.Path.{_≡_, refl, sym, ap, ap₂, _∙_}
 use mathlib.Core.Bool.{Bool, true, false}

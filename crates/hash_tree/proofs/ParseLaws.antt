@@ -1,5 +1,5 @@
 -- The laws of the parse. A tree written and then parsed comes back, with the rest; what parses is what was written, and is lawful; so no
--- written form is the front of another. Assumes nothing.
+-- written form is the front of another.
 use Prim.Native.Nat.{ℕ, zero, suc, _+_, _-_, _<_, _≤_, max}
 use mathlib.Core.Path.{_≡_, refl, ap}
 use mathlib.Core.List.{List, [], _∷_, _++_, append-assoc}
@@ -13,7 +13,7 @@ use Rattle.hash_tree.specs.HashTree.{HashTree, Empty, Fork, Labeled, Lea
 use Rattle.hash_tree.specs.Written.{write, piece, size, depth, Lengths, Lawful, maxLabel, maxValue, digestLen}
 use Rattle.hash_tree.specs.Record.{recordOf, kindOf, lenOf, least, most}
 use Rattle.hash_tree.specs.Parse.{Parsed, Got, Bad, parse, grow, byKind, labeled, forked, fork, Bytes}
-use Rattle.hash_tree.specs.RecordLaws.{View, whole, bad, view, piece-opens, body-length, piece-back}
+use Rattle.hash_tree.proofs.RecordLaws.{View, whole, bad, view, piece-opens, body-length, piece-back}
 
 -- how long a written form is
 pub length-piece : (k : ℕ) (b : List ℕ) → length (piece k b) ≡ 2 + length b
