@@ -1,12 +1,12 @@
 use native.Mathlib.Omega.{arith}
-use Rattle.witness.proofs.Putting.{puts-piece, piece-length}
+use Rattle.output.proofs.Putting.{puts-piece, piece-length}
 use borrow.Author.Needs.{needs}
-use Rattle.witness.proofs.put_piece.Statement.{statement}
-use Rattle.witness.proofs.put_piece.Tie as tie
-use Rattle.witness.proofs.put_piece.Reads as reads
-use Rattle.witness.proofs.put_piece.Lts as lts
-use Rattle.witness.proofs.put_bytes.Reads as put-bytes-reads
-use Rattle.witness.proofs.put_head.Reads as put-head-reads
+use Rattle.output.proofs.put_piece.Statement.{statement}
+use Rattle.output.proofs.put_piece.Tie as tie
+use Rattle.output.proofs.put_piece.Reads as reads
+use Rattle.output.proofs.put_piece.Lts as lts
+use Rattle.output.proofs.put_bytes.Reads as put-bytes-reads
+use Rattle.output.proofs.put_head.Reads as put-head-reads
 
 put-head-requires : tie.Need-put-head-requires
 put-head-requires c κs =

@@ -3,10 +3,10 @@ use native.Mathlib.Omega.{arith}
 use native.Mathlib.Numerals.{add-one}
 use lib.ListN.{length-set}
 use borrow.Author.Needs.{needs}
-use Rattle.witness.proofs.put_head.Statement.{statement}
-use Rattle.witness.proofs.put_head.Tie as tie
-use Rattle.witness.proofs.put_head.Reads as reads
-use Rattle.witness.proofs.put_head.Lts as lts
+use Rattle.output.proofs.put_head.Statement.{statement}
+use Rattle.output.proofs.put_head.Tie as tie
+use Rattle.output.proofs.put_head.Reads as reads
+use Rattle.output.proofs.put_head.Lts as lts
 
 mul-out : tie.Need-mul-out
 mul-out c = search needs

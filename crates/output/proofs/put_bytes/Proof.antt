@@ -4,11 +4,11 @@ use native.Mathlib.Omega.{arith}
 use lib.ListN.{length, take, length-set}
 use lib.Seq.{sets, take-length}
 use borrow.Author.Needs.{needs}
-use Rattle.witness.proofs.Putting.{sets-next}
-use Rattle.witness.proofs.put_bytes.Statement.{statement}
-use Rattle.witness.proofs.put_bytes.Tie as tie
-use Rattle.witness.proofs.put_bytes.Reads as reads
-use Rattle.witness.proofs.put_bytes.Lts as lts
+use Rattle.output.proofs.Putting.{sets-next}
+use Rattle.output.proofs.put_bytes.Statement.{statement}
+use Rattle.output.proofs.put_bytes.Tie as tie
+use Rattle.output.proofs.put_bytes.Reads as reads
+use Rattle.output.proofs.put_bytes.Lts as lts
 
 abbrev Inv-loop : tie.InvT-loop
 Inv-loop out₀ at src i₀ out i = (i ≤ length src) × (length out ≡ length out₀) × (out ≡ sets out₀ at (take i src))
