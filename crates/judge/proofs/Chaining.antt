@@ -1,5 +1,4 @@
 -- The loop along the free chain: there is a chain from here just when there is one from the start.
--- Assumes nothing.
 use mathlib.Core.Path.{_≡_, refl, sym, ap, subst, _∙_}
 use mathlib.Core.List.{List, [], _∷_}
 use Prim.Native.Nat.{ℕ, _-_}

@@ -1,5 +1,4 @@
 -- The judgement as a whole: each step holds of a sound store, and together they make a store sound.
--- Assumes nothing.
 use mathlib.Core.Path.{_≡_, refl, sym, ap, subst, _∙_}
 use mathlib.Core.Bool.{Bool, true}
 use mathlib.Core.List.{List, [], _∷_, _++_}

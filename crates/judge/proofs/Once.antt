@@ -1,6 +1,5 @@
 -- Why no slot stands twice, with no marks kept: keys that rise strictly name a slot once, a chain that ends names a slot once, and
 -- live bits keep tree and chain apart. So tree and chain, as many slots as the capacity, are all slots, each once.
--- Assumes nothing.
 use mathlib.Core.Path.{_≡_, refl, sym, ap, _∙_}
 use mathlib.Core.Bool.{Bool, true, false, true≢false}
 use mathlib.Core.Logic.{_≢_, _⊎_, inl, inr, ⊎-elim}

@@ -1,5 +1,4 @@
 -- Keys that rise from one entry to the next are sorted, and back; rising over a subtree in order.
--- Assumes nothing.
 use mathlib.Core.Path.{_≡_, refl}
 use mathlib.Core.List.{List, [], _∷_, _++_}
 use Rattle.key_order.specs.Order.{Key, cmp}

@@ -1,5 +1,4 @@
 -- What the tests of one node and of a header tell.
--- Assumes nothing.
 use mathlib.Core.Path.{_≡_, refl, sym, ap, subst, _∙_}
 use mathlib.Core.Bool.{Bool, true, false, not, true≢false}
 use mathlib.Core.List.{List}
@@ -8,10 +7,10 @@ use native.Mathlib.Omega.{arith}
 use lib.Dec.{eqb}
 use lib.ListN.{length, take, length-append}
 use borrow.Author.Tests.{eq-eqb, ne-eqb}
-use Rattle.key_order.specs.Order.{Key, cmp}
+use Rattle.key_order.specs.Order.{Key, pick, cmp, isSame, isBelow}
 use Rattle.key_order.specs.declared.Ordering.{Ordering}
-use Rattle.key_order.specs.declared.Ordering.the-variants.{Less, Equal, Greater}
-use Rattle.key_order.proofs.Laws.{cmp-refl, cmp-eq, lt≢eq, lt≢gt, gt≢eq}
+use Rattle.key_order.specs.declared.Ordering.the-variants.{Less}
+use Rattle.key_order.proofs.Laws.{same-refl, same-eq, below-less}
 use Rattle.hash_tree.specs.HashTree.{Digest, forkHash, labeledHash, leafHash}
 use Rattle.slots.specs.declared.Head.{Head}
 use Rattle.slots.specs.Layout.{HasSlot, Decides, Slot, slot, headOf, keyOf, valueOf, digestOf, padded, zeros, IsEntry}
@@ -32,24 +31,13 @@ wants-black false black e = λ h. refl
 
 -- ---- two byte strings compared
 
-module _ (a b : Key) {o : Ordering} (e : o ≡ cmp a b) where
-  equal : a ≡ b → o ≡ Equal
-  equal h = e ∙ ap (cmp a) (sym h) ∙ cmp-refl a
+pub same-decides : (a b : Key) (r : Bool) → r ≡ isSame a b → Decides r (a ≡ b)
+same-decides a b true e = same-eq a b (sym e)
+same-decides a b false e = λ h. true≢false (sym (e ∙ ap (isSame a) (sym h) ∙ same-refl a))
 
-  pub less-other : o ≡ Less → a ≡ b → ⊥
-  less-other x h = lt≢eq x (equal h)
-
-  pub greater-other : o ≡ Greater → a ≡ b → ⊥
-  greater-other x h = gt≢eq x (equal h)
-
-  pub equal-same : o ≡ Equal → a ≡ b
-  equal-same x = cmp-eq a b (sym e ∙ x)
-
-  pub equal-not : o ≡ Equal → cmp a b ≡ Less → ⊥
-  equal-not x h = lt≢eq (e ∙ h) x
-
-  pub greater-not : o ≡ Greater → cmp a b ≡ Less → ⊥
-  greater-not x h = lt≢gt (e ∙ h) x
+pub below-decides : (a b : Key) (r : Bool) → r ≡ isBelow a b → Decides r (cmp a b ≡ Less)
+below-decides a b true e = below-less a b (sym e)
+below-decides a b false e = λ h. true≢false (sym (e ∙ ap (λ (o : Ordering). pick o true false false) h))
 
 -- ---- the digest by the links
 

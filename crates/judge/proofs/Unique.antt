@@ -1,5 +1,4 @@
 -- From one slot on, bytes hold one tree only, and one chain only.
--- Assumes nothing.
 use mathlib.Core.Path.{_≡_, refl, sym, ap, _∙_}
 use mathlib.Core.Bool.{Bool}
 use mathlib.Core.List.{List, [], _∷_}

@@ -1,5 +1,4 @@
 -- The walk over a subtree: what it found on the way is the tree, and where it stopped there is none.
--- Assumes nothing.
 use mathlib.Core.Path.{_≡_, refl, sym, ap, subst, _∙_}
 use mathlib.Core.Bool.{Bool, true, false, cond}
 use mathlib.Core.List.{List}

@@ -1,5 +1,4 @@
 -- Keys that rise strictly from one entry to the next, as a walk in order meets them: the bound is the key met before, if there is one.
--- Assumes nothing: these are definitions.
 use mathlib.Core.Path.{_≡_}
 use mathlib.Core.List.{List, [], _∷_}
 use Rattle.key_order.specs.Order.{Key, cmp}

@@ -1,5 +1,4 @@
 -- What the steps of the judgement tell, between the bytes and `Sound`: one node by itself, a subtree walked in order, the free chain.
--- Assumes nothing: these are definitions.
 use mathlib.Core.Path.{_≡_}
 use mathlib.Core.Bool.{Bool, true, false, cond}
 use mathlib.Core.List.{List, [], _∷_}

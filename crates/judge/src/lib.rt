@@ -6,8 +6,8 @@
 use hash_tree::fork_hash;
 use hash_tree::labeled_hash;
 use hash_tree::leaf_hash;
-use key_order::Ordering;
-use key_order::compare;
+use key_order::below;
+use key_order::same;
 use slots::Head;
 use slots::Header;
 ghost use mathlib.Core.Path.{_≡_};
@@ -15,8 +15,6 @@ ghost use mathlib.Core.Bool.{true, false};
 ghost use Prim.Native.Nat.{_≤_};
 ghost use lib.Dec.{eqb};
 ghost use lib.ListN.{length};
-ghost use Rattle.key_order.specs.Order.{cmp};
-ghost use Rattle.key_order.specs.declared.Ordering.the-variants.{Less};
 ghost use Rattle.slots.specs.Layout.{HasSlot, Decides, slot, headOf, keyOf, digestOf};
 ghost use Rattle.llrb.specs.Digests.{nodeDigest};
 ghost use Rattle.store.specs.Sound.{Sound};
@@ -68,26 +66,6 @@ fn colour_ok(red: bool, black: bool) -> bool
         return true;
     }
     !red
-}
-
-fn same(a: &[u8], b: &[u8]) -> bool
-    ensures { λ r. ⌜ Decides r (now (a .entry) ≡ now (b .entry)) ⌝ }
-{
-    match compare(a, b) {
-        Ordering::Less => false,
-        Ordering::Equal => true,
-        Ordering::Greater => false,
-    }
-}
-
-fn below(a: &[u8], b: &[u8]) -> bool
-    ensures { λ r. ⌜ Decides r (cmp (now (a .entry)) (now (b .entry)) ≡ Less) ⌝ }
-{
-    match compare(a, b) {
-        Ordering::Less => true,
-        Ordering::Equal => false,
-        Ordering::Greater => false,
-    }
 }
 
 // From the data digest `d` and the stored digests of the slots that the links name.

@@ -1,15 +1,15 @@
 -- The laws of the order of keys: total, transitive, equal only of the same string; a prefix and what begins with it.
--- Assumes nothing.
 use mathlib.Core.Path.{_≡_, refl, sym, ap, ap₂, _∙_}
 use mathlib.Core.Bool.{Bool, true, false, _&&_}
 use mathlib.Core.List.{List, [], _∷_, _++_}
-use Prim.Native.Nat.{ℕ, _≤_, _<_}
+use Prim.Native.Nat.{ℕ, suc, _≤_, _<_}
+use lib.ListN.{length, getD, take, drop}
 use native.Mathlib.Omega.{arith}
-use lib.Dec.{ltb, eqb}
-use borrow.Author.Tests.{ltb-true, ltb-false, lt-ltb, le-ltb, eqb-true, eq-eqb}
+use lib.Dec.{ltb, eqb, eqb·suc-suc, eqb·zero-suc}
+use borrow.Author.Tests.{ltb-true, ltb-false, lt-ltb, le-ltb, eqb-true, eq-eqb, ne-eqb}
 use Rattle.key_order.specs.declared.Ordering.{Ordering}
 use Rattle.key_order.specs.declared.Ordering.the-variants.{Less, Equal, Greater}
-use Rattle.key_order.specs.Order.{Key, cmp, isPrefixOf}
+use Rattle.key_order.specs.Order.{Key, pick, cmp, isPrefixOf, common, isSame, isBelow}
 
 -- ---- answers
 
@@ -133,7 +133,7 @@ eq-notLt k e h q = lt≢eq q h
 
 -- ---- prefixes: `isPrefixOf p x` says that x is p and then some string
 
-both-true : (a b : Bool) → (a && b) ≡ true → (a ≡ true) × (b ≡ true)
+pub both-true : (a b : Bool) → (a && b) ≡ true → (a ≡ true) × (b ≡ true)
 both-true true b h = (refl, h)
 both-true false b h = absurd (true≢false (sym h))
 
@@ -180,3 +180,144 @@ begins-between (a ∷ p) (c ∷ x) (d ∷ y) h k b = at (heads a c) (both-true (
     at (same e) w ih =
         let f : a ≡ d = eqb-true a d (w .0) in
         rw (eq-eqb a c e) (ih (sym (head-same a c p x e) ∙ h) (sym (head-same c d x y (sym e ∙ f)) ∙ k) (w .1))
+
+-- ---- where two keys part
+
+pub common-same : (x y : ℕ) (xs ys : Key) → x ≡ y → common (x ∷ xs) (y ∷ ys) ≡ suc (common xs ys)
+unfolding common
+common-same x y xs ys h = rw (eq-eqb x y h)
+
+pub common-other : (x y : ℕ) (xs ys : Key) → (x ≡ y → ⊥) → common (x ∷ xs) (y ∷ ys) ≡ 0
+unfolding common
+common-other x y xs ys h = rw (ne-eqb x y h)
+
+pub common-nil : (a : Key) → common a [] ≡ 0
+unfolding common
+common-nil [] = refl
+common-nil (x ∷ xs) = refl
+
+-- the same in either order
+pub common-turn : (a b : Key) → common a b ≡ common b a
+unfolding common
+common-turn [] [] = refl
+common-turn [] (y ∷ ys) = refl
+common-turn (x ∷ xs) [] = refl
+common-turn (x ∷ xs) (y ∷ ys) = at (heads x y) (common-turn xs ys)
+  where
+    at : Heads x y → common xs ys ≡ common ys xs → common (x ∷ xs) (y ∷ ys) ≡ common (y ∷ ys) (x ∷ xs)
+    at (below l) ih = common-other x y xs ys (λ e. omega arith) ∙ sym (common-other y x ys xs (λ e. omega arith))
+    at (same e) ih = common-same x y xs ys e ∙ (ap suc ih ∙ sym (common-same y x ys xs (sym e)))
+    at (above g) ih = common-other x y xs ys (λ e. omega arith) ∙ sym (common-other y x ys xs (λ e. omega arith))
+
+-- at most either length
+pub common-le : (a b : Key) → common a b ≤ length a
+unfolding common
+common-le [] b = omega arith
+common-le (x ∷ xs) [] = omega arith
+common-le (x ∷ xs) (y ∷ ys) = at (heads x y) (common-le xs ys)
+  where
+    at : Heads x y → common xs ys ≤ length xs → common (x ∷ xs) (y ∷ ys) ≤ suc (length xs)
+    at (below l) ih = omega (arith, common-other x y xs ys (λ e. omega arith))
+    at (same e) ih = omega (arith, common-same x y xs ys e)
+    at (above g) ih = omega (arith, common-other x y xs ys (λ e. omega arith))
+
+-- fronts of that length are equal
+pub common-take : (a b : Key) → take (common a b) a ≡ take (common a b) b
+unfolding common
+common-take [] b = refl
+common-take (x ∷ xs) [] = refl
+common-take (x ∷ xs) (y ∷ ys) = at (heads x y) (common-take xs ys)
+  where
+    at : Heads x y → take (common xs ys) xs ≡ take (common xs ys) ys → take (common (x ∷ xs) (y ∷ ys)) (x ∷ xs) ≡ take (common (x ∷ xs) (y ∷ ys)) (y ∷ ys)
+    at (below l) ih = rw (common-other x y xs ys (λ e. omega arith))
+    at (same e) ih = rw (common-same x y xs ys e) (ap₂ {C = List ℕ} _∷_ e ih)
+    at (above g) ih = rw (common-other x y xs ys (λ e. omega arith))
+
+-- what stands after them decides the order
+pub common-rest : (a b : Key) → cmp a b ≡ cmp (drop (common a b) a) (drop (common a b) b)
+unfolding common
+common-rest [] b = refl
+common-rest (x ∷ xs) [] = refl
+common-rest (x ∷ xs) (y ∷ ys) = at (heads x y) (common-rest xs ys)
+  where
+    at : Heads x y → cmp xs ys ≡ cmp (drop (common xs ys) xs) (drop (common xs ys) ys)
+        → cmp (x ∷ xs) (y ∷ ys) ≡ cmp (drop (common (x ∷ xs) (y ∷ ys)) (x ∷ xs)) (drop (common (x ∷ xs) (y ∷ ys)) (y ∷ ys))
+    at (below l) ih = rw (common-other x y xs ys (λ e. omega arith))
+    at (same e) ih = rw (common-same x y xs ys e) (head-same x y xs ys e ∙ ih)
+    at (above g) ih = rw (common-other x y xs ys (λ e. omega arith))
+
+-- equal keys agree in all of their bytes
+pub common-equal : (a : Key) → common a a ≡ length a
+unfolding common
+common-equal [] = refl
+common-equal (x ∷ xs) = common-same x x xs xs refl ∙ ap suc (common-equal xs)
+
+-- to begin with p is to agree with p in all of its bytes
+pub begins-common : (p x : Key) → isPrefixOf p x ≡ eqb (common x p) (length p)
+unfolding isPrefixOf common
+begins-common [] [] = refl
+begins-common [] (b ∷ x) = refl
+begins-common (a ∷ p) [] = sym (eqb·zero-suc (length p))
+begins-common (a ∷ p) (b ∷ x) = at (heads a b) (begins-common p x)
+  where
+    at : Heads a b → isPrefixOf p x ≡ eqb (common x p) (length p) → isPrefixOf (a ∷ p) (b ∷ x) ≡ eqb (common (b ∷ x) (a ∷ p)) (suc (length p))
+    at (below l) ih = rw (common-other b a x p (λ e. omega arith), ne-eqb a b (λ e. omega arith)) (sym (eqb·zero-suc (length p)))
+    at (same e) ih = rw (common-same b a x p (sym e), eq-eqb a b e) (ih ∙ sym (eqb·suc-suc (common x p) (length p)))
+    at (above g) ih = rw (common-other b a x p (λ e. omega arith), ne-eqb a b (λ e. omega arith)) (sym (eqb·zero-suc (length p)))
+
+-- right after them one string ends or the bytes differ, and that alone decides the order
+pub data Parts (a b : Key) (n : ℕ) : Type 0 where
+  both-end : n ≡ length a → n ≡ length b → cmp a b ≡ Equal → Parts a b n
+  first-ends : n ≡ length a → n < length b → cmp a b ≡ Less → Parts a b n
+  second-ends : n < length a → n ≡ length b → cmp a b ≡ Greater → Parts a b n
+  less : n < length a → n < length b → getD a n 0 < getD b n 0 → cmp a b ≡ Less → Parts a b n
+  more : n < length a → n < length b → getD b n 0 < getD a n 0 → cmp a b ≡ Greater → Parts a b n
+
+parts-later : {x y : ℕ} {xs ys : Key} {n : ℕ} → x ≡ y → Parts xs ys n → Parts (x ∷ xs) (y ∷ ys) (suc n)
+parts-later {x} {y} {xs} {ys} e (both-end p q o) = both-end (ap suc p) (ap suc q) (head-same x y xs ys e ∙ o)
+parts-later {x} {y} {xs} {ys} e (first-ends p q o) = first-ends (ap suc p) (omega arith) (head-same x y xs ys e ∙ o)
+parts-later {x} {y} {xs} {ys} e (second-ends p q o) = second-ends (omega arith) (ap suc q) (head-same x y xs ys e ∙ o)
+parts-later {x} {y} {xs} {ys} e (less p q h o) = less (omega arith) (omega arith) h (head-same x y xs ys e ∙ o)
+parts-later {x} {y} {xs} {ys} e (more p q h o) = more (omega arith) (omega arith) h (head-same x y xs ys e ∙ o)
+
+pub common-parts : (a b : Key) → Parts a b (common a b)
+unfolding cmp common
+common-parts [] [] = both-end refl refl refl
+common-parts [] (y ∷ ys) = first-ends refl (omega arith) refl
+common-parts (x ∷ xs) [] = second-ends (omega arith) refl refl
+common-parts (x ∷ xs) (y ∷ ys) = at (heads x y) (common-parts xs ys)
+  where
+    at : Heads x y → Parts xs ys (common xs ys) → Parts (x ∷ xs) (y ∷ ys) (common (x ∷ xs) (y ∷ ys))
+    at (below l) ih = rw (common-other x y xs ys (λ e. omega arith)) (less (omega arith) (omega arith) l (head-below x y xs ys l))
+    at (same e) ih = rw (common-same x y xs ys e) (parts-later e ih)
+    at (above g) ih = rw (common-other x y xs ys (λ e. omega arith)) (more (omega arith) (omega arith) g (head-above x y xs ys g))
+
+-- ---- the two tests
+
+pub same-refl : (a : Key) → isSame a a ≡ true
+same-refl a = rw (cmp-refl a)
+
+pub same-eq : (a b : Key) → isSame a b ≡ true → a ≡ b
+same-eq a b h = cmp-eq a b (at (cmp a b) h)
+  where
+    at : (o : Ordering) → pick o false true false ≡ true → o ≡ Equal
+    at Less e = absurd (true≢false (sym e))
+    at Equal e = refl
+    at Greater e = absurd (true≢false (sym e))
+
+pub below-less : (a b : Key) → isBelow a b ≡ true → cmp a b ≡ Less
+below-less a b h = at (cmp a b) h
+  where
+    at : (o : Ordering) → pick o true false false ≡ true → o ≡ Less
+    at Less e = refl
+    at Equal e = absurd (true≢false (sym e))
+    at Greater e = absurd (true≢false (sym e))
+
+-- the second comes before the first
+pub below-turn : (a b : Key) → isBelow b a ≡ pick (cmp a b) false false true
+below-turn a b = rw (cmp-turn a b) (at (cmp a b))
+  where
+    at : (o : Ordering) → pick (turn o) true false false ≡ pick o false false true
+    at Less = refl
+    at Equal = refl
+    at Greater = refl

@@ -1,8 +1,8 @@
-// Byte strings as keys: their order, and the test whether one begins with another.
+// Byte strings as keys: their order, and where they part.
 ghost use mathlib.Core.Path.{_≡_};
-ghost use Prim.Native.Nat.{_+_, _≤_, _<_};
+ghost use Prim.Native.Nat.{_+_, _-_, _/_, _^_, _≤_, _<_};
 ghost use lib.ListN.{length};
-ghost use Rattle.key_order.specs.Order.{cmp, isPrefixOf};
+ghost use Rattle.key_order.specs.Order.{cmp, compared, isSame, isBelow};
 ghost use Rattle.key_order.specs.Words.{word};
 
 // How one key stands to another: the Rust's `std::cmp::Ordering`.
@@ -10,6 +10,12 @@ pub enum Ordering {
     Less,
     Equal,
     Greater,
+}
+
+// How two keys compare, and how many of their leading bytes agree.
+pub struct Compared {
+    pub order: Ordering,
+    pub agree: usize,
 }
 
 fn wide(b: u8) -> u32
@@ -45,9 +51,17 @@ fn shorter(a: &[u8], b: &[u8]) -> usize
     if a.len() < b.len() { a.len() } else { b.len() }
 }
 
+// In which byte two unlike numbers of eight bytes part, the first one highest.
+fn place(p: u64, q: u64) -> usize
+    requires { ⌜ (p ≡ q → ⊥) ⌝ }
+    ensures { λ r. ⌜ (r < 8) × (p / 256 ^ (8 - r) ≡ q / 256 ^ (8 - r)) × (p / 256 ^ (7 - r) ≡ q / 256 ^ (7 - r) → ⊥) ⌝ }
+{
+    (u64::leading_zeros(p ^ q) / 8) as usize
+}
+
 // Byte by byte as unsigned numbers; a proper prefix is smaller. Eight bytes at a time, as long as both have them.
-pub fn compare(a: &[u8], b: &[u8]) -> Ordering
-    ensures { λ r. ⌜ r ≡ cmp (now (a .entry)) (now (b .entry)) ⌝ }
+pub fn compare(a: &[u8], b: &[u8]) -> Compared
+    ensures { λ r. ⌜ r ≡ compared (now (a .entry)) (now (b .entry)) ⌝ }
 {
     let n = shorter(a, b);
     let mut i = 0;
@@ -55,48 +69,83 @@ pub fn compare(a: &[u8], b: &[u8]) -> Ordering
         let p = eight(a, i);
         let q = eight(b, i);
         if p != q {
+            let at = i + place(p, q);
             if p < q {
-                return Ordering::Less;
+                return Compared {
+                    order: Ordering::Less,
+                    agree: at,
+                };
             }
-            return Ordering::Greater;
+            return Compared {
+                order: Ordering::Greater,
+                agree: at,
+            };
         }
         i += 8;
     }
     loop {
         if i == a.len() {
             if i == b.len() {
-                break Ordering::Equal;
+                break Compared {
+                    order: Ordering::Equal,
+                    agree: i,
+                };
             }
-            break Ordering::Less;
+            break Compared {
+                order: Ordering::Less,
+                agree: i,
+            };
         }
         if i == b.len() {
-            break Ordering::Greater;
+            break Compared {
+                order: Ordering::Greater,
+                agree: i,
+            };
         }
         let x = a[i];
         let y = b[i];
         if x < y {
-            break Ordering::Less;
+            break Compared {
+                order: Ordering::Less,
+                agree: i,
+            };
         }
         if y < x {
-            break Ordering::Greater;
+            break Compared {
+                order: Ordering::Greater,
+                agree: i,
+            };
         }
         i += 1;
     }
 }
 
-// Whether `x` begins with `p`.
-pub fn is_prefix_of(p: &[u8], x: &[u8]) -> bool
-    ensures { λ r. ⌜ r ≡ isPrefixOf (now (p .entry)) (now (x .entry)) ⌝ }
+// The order alone.
+pub fn order(a: &[u8], b: &[u8]) -> Ordering
+    ensures { λ r. ⌜ r ≡ cmp (now (a .entry)) (now (b .entry)) ⌝ }
 {
-    if p.len() > x.len() {
-        return false;
+    let c = compare(a, b);
+    c.order
+}
+
+// Whether the two are the same string.
+pub fn same(a: &[u8], b: &[u8]) -> bool
+    ensures { λ r. ⌜ r ≡ isSame (now (a .entry)) (now (b .entry)) ⌝ }
+{
+    match order(a, b) {
+        Ordering::Less => false,
+        Ordering::Equal => true,
+        Ordering::Greater => false,
     }
-    let mut i = 0;
-    while i < p.len() {
-        if p[i] != x[i] {
-            return false;
-        }
-        i += 1;
+}
+
+// Whether the first comes before the second.
+pub fn below(a: &[u8], b: &[u8]) -> bool
+    ensures { λ r. ⌜ r ≡ isBelow (now (a .entry)) (now (b .entry)) ⌝ }
+{
+    match order(a, b) {
+        Ordering::Less => true,
+        Ordering::Equal => false,
+        Ordering::Greater => false,
     }
-    true
 }

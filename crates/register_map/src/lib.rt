@@ -11,24 +11,28 @@ use answers::MAX_KEY;
 use answers::MAX_VALUE;
 use answers::NOT_SOUND;
 use answers::REVERSED;
+use answers::Saved;
 use answers::Told;
 use hash_tree::Rebuilt;
 use judge::judge;
-use key_order::Ordering;
-use key_order::compare;
+use key_order::below;
+use lookup::LookedUp;
+use parts::STATE;
 use rb_tree::Changed;
 use rb_tree::Inserted;
 use search::Place;
 use sha256::Hashed;
-use witness::Saved;
 ghost use mathlib.Core.Path.{_≡_};
 ghost use Rattle.sha256.specs.Hashed.{hashed};
 ghost use Rattle.hash_tree.specs.Whole.{rebuilt};
-ghost use Rattle.store.specs.Calls.{createAnswer, isEmptyAnswer, countAnswer, rootHashAnswer, getAnswer, firstEntryAnswer, nextEntryAnswer, insertAnswer, modifyAnswer, deleteAnswer, reversed, asHashTreeAnswer, keysAnswer, witnessAnswer, keyRangeAnswer, valueRangeAnswer, keysWithPrefixAnswer};
-ghost use Rattle.answers.specs.Answers.{noEntry, changedOf};
+ghost use Rattle.store.specs.Calls.{createAnswer, isEmptyAnswer, countAnswer, rootHashAnswer, getAnswer, firstEntryAnswer, nextEntryAnswer, insertAnswer, modifyAnswer, deleteAnswer, asHashTreeAnswer, keysAnswer, witnessAnswer, keyRangeAnswer, valueRangeAnswer, keysWithPrefixAnswer};
+ghost use Rattle.answers.specs.Answers.{noEntry, unwritten, answered, changedOf};
 ghost use Rattle.search.specs.Search.{answerOf};
-ghost use Rattle.witness.specs.Saving.{answered};
-ghost use Rattle.register_map.specs.Answers.{insertedNumber, changedNumber, unwritten};
+ghost use Rattle.lookup.specs.Answer.{lookupAnswer};
+ghost use Rattle.merge.specs.Answer.{mergeAnswer};
+ghost use Rattle.parts.specs.Machine.{ended, partNumber};
+ghost use Rattle.parts.specs.Layout.{begun, run, partsOf};
+ghost use Rattle.register_map.specs.Answers.{insertedNumber, changedNumber};
 
 // ---- a store as a whole
 
@@ -200,16 +204,6 @@ fn refuse(number: usize) -> Saved
     Saved { number, size: 0 }
 }
 
-fn above(first: &[u8], last: &[u8]) -> bool
-    ensures { λ r. ⌜ r ≡ reversed (now (first .entry)) (now (last .entry)) ⌝ }
-{
-    match compare(first, last) {
-        Ordering::Less => false,
-        Ordering::Equal => false,
-        Ordering::Greater => true,
-    }
-}
-
 // Every key with its value.
 pub fn as_hash_tree(store: &[u8], out: &mut [u8]) -> Saved
     ensures { λ r. ⌜ answered r (now (out .exit)) ≡ asHashTreeAnswer (now (store .entry)) (now (out .entry)) ⌝ }
@@ -255,7 +249,7 @@ pub fn key_range(store: &[u8], first: &[u8], last: &[u8], out: &mut [u8]) -> Sav
     if MAX_KEY < last.len() {
         return refuse(LONG_KEY);
     }
-    if above(first, last) {
+    if below(last, first) {
         return refuse(REVERSED);
     }
     witness::key_range(store, first, last, out)
@@ -273,7 +267,7 @@ pub fn value_range(store: &[u8], first: &[u8], last: &[u8], out: &mut [u8]) -> S
     if MAX_KEY < last.len() {
         return refuse(LONG_KEY);
     }
-    if above(first, last) {
+    if below(last, first) {
         return refuse(REVERSED);
     }
     witness::value_range(store, first, last, out)
@@ -298,6 +292,43 @@ pub fn rebuild(witness: &[u8]) -> Rebuilt
     ensures { λ r. ⌜ r ≡ rebuilt (now (witness .entry)) ⌝ }
 {
     hash_tree::rebuild(witness)
+}
+
+// The Interface Specification's lookup of a key in a witness. It hashes nothing: an answer is worth something only after the witness
+// was rebuilt and its digest compared.
+pub fn lookup(witness: &[u8], key: &[u8]) -> LookedUp
+    ensures { λ r. ⌜ r ≡ lookupAnswer (now (key .entry)) (now (witness .entry)) ⌝ }
+{
+    lookup::lookup(witness, key)
+}
+
+// Two witnesses of one release in one, at the front of the output.
+pub fn merge(one: &[u8], other: &[u8], out: &mut [u8]) -> Saved
+    ensures { λ r. ⌜ answered r (now (out .exit)) ≡ mergeAnswer (now (one .entry)) (now (other .entry)) (now (out .entry)) ⌝ }
+{
+    merge::merge(one, other, out)
+}
+
+// ---- rebuild in parts: a state of plain bytes, which means nothing before it is begun
+
+pub fn rebuild_begin(state: &mut [u8; STATE])
+    ensures { λ _. ⌜ now (state .exit) ≡ begun (now (state .entry)) ⌝ }
+{
+    parts::rebuild_begin(state);
+}
+
+// The next bytes of the witness: 9 once it is certain that no witness begins so, else 0.
+pub fn rebuild_part(state: &mut [u8; STATE], bytes: &[u8]) -> usize
+    ensures { λ r. ⌜ (now (state .exit) ≡ run (now (state .entry)) (now (bytes .entry))) × (r ≡ partNumber (partsOf (now (state .exit)))) ⌝ }
+{
+    parts::rebuild_part(state, bytes)
+}
+
+// What rebuild answers for all the bytes so far; it changes nothing, and parts may follow.
+pub fn rebuild_end(state: &[u8; STATE]) -> Rebuilt
+    ensures { λ r. ⌜ r ≡ ended (partsOf (now (state .entry))) ⌝ }
+{
+    parts::rebuild_end(state)
 }
 
 // The SHA-256 of a message.

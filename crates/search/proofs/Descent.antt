@@ -1,6 +1,5 @@
 -- The way down in a search: a loop that carries the best met so far. F is the search on paper, from the best and a tree; the code's
 -- loop has come to slot a with the answer d, which stands for the best.
--- Assumes nothing.
 use mathlib.Core.Path.{_≡_, refl, sym, ap, _∙_}
 use mathlib.Core.Bool.{Bool}
 use mathlib.Core.List.{List}

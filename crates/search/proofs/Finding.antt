@@ -1,5 +1,4 @@
 -- What a search finds is an entry of the tree; so it lies in its slot, and its place is what the public calls answer.
--- Assumes nothing.
 use mathlib.Core.Path.{_≡_, refl, sym, ap, _∙_}
 use mathlib.Core.Bool.{Bool, true, false, cond}
 use mathlib.Core.List.{List}

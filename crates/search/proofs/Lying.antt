@@ -1,5 +1,4 @@
 -- A tree that lies in a store: it is the only one below its slot, its top is an entry's slot, and its children lie there too.
--- Assumes nothing.
 use mathlib.Core.Path.{_≡_, refl, sym, ap, subst, _∙_}
 use mathlib.Core.Bool.{Bool}
 use mathlib.Core.List.{List}

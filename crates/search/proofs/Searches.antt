@@ -1,5 +1,4 @@
 -- The steps of each search, in the order of the code: the loop ends, stops at an entry, goes to the left or to the right.
--- Assumes nothing.
 use mathlib.Core.Path.{_≡_, refl, sym, ap, _∙_}
 use mathlib.Core.Bool.{Bool, true, false}
 use mathlib.Core.Logic.{_⊎_, inl, inr}
@@ -7,12 +6,17 @@ use mathlib.Core.List.{List, [], _∷_}
 use mathlib.Core.Option.{Option, none, some}
 use Prim.Native.Nat.{ℕ}
 use native.Mathlib.Omega.{arith}
+use lib.Dec.{eqb}
+use lib.ListN.{length}
+use borrow.Author.Tests.{eq-eqb, ne-eqb}
 use types.Run.{OneOf}
 use denote.Enum.Declared.{tagOf}
 use Rattle.key_order.proofs.Ordering.{the-type}
 use Rattle.key_order.specs.declared.Ordering.{Ordering}
 use Rattle.key_order.specs.declared.Ordering.the-variants.{Less, Equal, Greater}
-use Rattle.key_order.specs.Order.{Key, cmp, isPrefixOf}
+use Rattle.key_order.specs.declared.Compared.{Compared}
+use Rattle.key_order.specs.Order.{Key, cmp, isPrefixOf, compared}
+use Rattle.key_order.proofs.Laws.{begins-common}
 use Rattle.slots.specs.Layout.{slot, keyOf}
 use Rattle.llrb.specs.Tree.{Entry, Tree, nil, node, get}
 use Rattle.llrb.specs.Iterate.{firstEntry, orEntry, nextEntry, nextLoop}
@@ -48,11 +52,11 @@ neighbor-here : {best : Bound} {a : ℕ} (b : Option bounds.KeyBound) (e : Entry
 neighbor-here b e x y = ap (λ (i : ℕ). bound.At (Neighbor i)) (sym y)
 
 -- the key of the node, compared
-told : (k : Key) {m n : Key} → n ≡ m → {o v : Ordering} → o ≡ cmp n k → o ≡ v → (e : Entry) → e .key ≡ m → cmp (e .key) k ≡ v
-told k en eo q e w = cc
+told : (k : Key) {m n : Key} → n ≡ m → {c : Compared} {v : Ordering} → c ≡ compared n k → c .order ≡ v → (e : Entry) → e .key ≡ m → cmp (e .key) k ≡ v
+told k en ec q e w = let o = ap (λ (x : Compared). x .order) ec in cc
 
-after : (k : Key) {m n : Key} → n ≡ m → {o v : Ordering} → o ≡ cmp k n → o ≡ v → (e : Entry) → e .key ≡ m → cmp k (e .key) ≡ v
-after k en eo q e w = cc
+after : (k : Key) {m n : Key} → n ≡ m → {c : Compared} {v : Ordering} → c ≡ compared k n → c .order ≡ v → (e : Entry) → e .key ≡ m → cmp k (e .key) ≡ v
+after k en ec q e w = let o = ap (λ (x : Compared). x .order) ec in cc
 
 -- an arm for two answers tells that the answer's number is one of two
 pub less-or-equal : (o : Ordering) → OneOf (0 ∷ 1 ∷ []) (tagOf the-type o) → (o ≡ Less) ⊎ (o ≡ Equal)
@@ -77,18 +81,18 @@ module _ {s : List ℕ} {h a : ℕ} (k : Key) (p : AtGet s h k a) where
   unfolding get
   get-ends e = ends p e foundSlot (λ b w. refl)
 
-  module _ (ne : a ≡ 0 → ⊥) {n : Key} (en : n ≡ keyOf (slot s a)) {o : Ordering} (eo : o ≡ cmp k n) where
-    pub get-stops : o ≡ Equal → (t : Tree) → Lies s h t → found.At a ≡ foundSlot (get k t)
+  module _ (ne : a ≡ 0 → ⊥) {n : Key} (en : n ≡ keyOf (slot s a)) {z : Compared} (ec : z ≡ compared k n) where
+    pub get-stops : z .order ≡ Equal → (t : Tree) → Lies s h t → found.At a ≡ foundSlot (get k t)
     unfolding get
-    get-stops q = stops p ne foundSlot (λ b c e l r i w. rw (after k en eo q e w) (ap found.At (sym i)))
+    get-stops q = stops p ne foundSlot (λ b c e l r i w. rw (after k en ec q e w) (ap found.At (sym i)))
 
-    pub get-left : o ≡ Less → {j : ℕ} → j ≡ slot s a .left → AtGet s h k j
+    pub get-left : z .order ≡ Less → {j : ℕ} → j ≡ slot s a .left → AtGet s h k j
     unfolding get
-    get-left q w = go-left p ne w keep (λ b e x y. refl) (λ b c e l r w. rw (after k en eo q e w))
+    get-left q w = go-left p ne w keep (λ b e x y. refl) (λ b c e l r w. rw (after k en ec q e w))
 
-    pub get-right : o ≡ Greater → {j : ℕ} → j ≡ slot s a .right → AtGet s h k j
+    pub get-right : z .order ≡ Greater → {j : ℕ} → j ≡ slot s a .right → AtGet s h k j
     unfolding get
-    get-right q w = go-right p ne w keep (λ b e x y. refl) (λ b c e l r w. rw (after k en eo q e w))
+    get-right q w = go-right p ne w keep (λ b e x y. refl) (λ b c e l r w. rw (after k en ec q e w))
 
 -- ---- the bounds: the best bound met so far is carried
 
@@ -118,63 +122,66 @@ module _ {s : List ℕ} {h a : ℕ} (k : Key) {best : Bound} (p : AtLow s h k be
   unfolding lowLoop
   low-ends e t w = ends p e boundSlot (λ b x. x) t w ∙ ap boundSlot (low-all k t)
 
-  module _ (ne : a ≡ 0 → ⊥) {n : Key} (en : n ≡ keyOf (slot s a)) {o : Ordering} (eo : o ≡ cmp n k) where
-    pub low-right : o ≡ Less → {j : ℕ} → j ≡ slot s a .right → AtLow s h k (bound.At (Neighbor a)) j
+  module _ (ne : a ≡ 0 → ⊥) {n : Key} (en : n ≡ keyOf (slot s a)) {z : Compared} (ec : z ≡ compared n k) where
+    pub low-right : z .order ≡ Less → {j : ℕ} → j ≡ slot s a .right → AtLow s h k (bound.At (Neighbor a)) j
     unfolding lowLoop
-    low-right q w = go-right p ne w neighbor neighbor-here (λ b c e l r w. rw (told k en eo q e w))
+    low-right q w = go-right p ne w neighbor neighbor-here (λ b c e l r w. rw (told k en ec q e w))
 
-    pub low-stops : o ≡ Equal → (t : Tree) → Lies s h t → bound.At (Exact a) ≡ boundSlot (lowerBound k t)
+    pub low-stops : z .order ≡ Equal → (t : Tree) → Lies s h t → bound.At (Exact a) ≡ boundSlot (lowerBound k t)
     unfolding lowLoop
     low-stops q t w =
-        stops p ne boundSlot (λ b c e l r i w. rw (told k en eo q e w) (ap (λ (j : ℕ). bound.At (Exact j)) (sym i))) t w
+        stops p ne boundSlot (λ b c e l r i w. rw (told k en ec q e w) (ap (λ (j : ℕ). bound.At (Exact j)) (sym i))) t w
         ∙ ap boundSlot (low-all k t)
 
-    pub low-left : o ≡ Greater → {j : ℕ} → j ≡ slot s a .left → AtLow s h k best j
+    pub low-left : z .order ≡ Greater → {j : ℕ} → j ≡ slot s a .left → AtLow s h k best j
     unfolding lowLoop
-    low-left q w = go-left p ne w keep (λ b e x y. x) (λ b c e l r w. rw (told k en eo q e w))
+    low-left q w = go-left p ne w keep (λ b e x y. x) (λ b c e l r w. rw (told k en ec q e w))
 
 module _ {s : List ℕ} {h a : ℕ} (k : Key) {best : Bound} (p : AtHigh s h k best a) where
   pub high-ends : a ≡ 0 → (t : Tree) → Lies s h t → best ≡ boundSlot (upperBound k t)
   unfolding highLoop
   high-ends e t w = ends p e boundSlot (λ b x. x) t w ∙ ap boundSlot (high-all k t)
 
-  module _ (ne : a ≡ 0 → ⊥) {n : Key} (en : n ≡ keyOf (slot s a)) {o : Ordering} (eo : o ≡ cmp n k) where
-    pub high-right : o ≡ Less → {j : ℕ} → j ≡ slot s a .right → AtHigh s h k best j
+  module _ (ne : a ≡ 0 → ⊥) {n : Key} (en : n ≡ keyOf (slot s a)) {z : Compared} (ec : z ≡ compared n k) where
+    pub high-right : z .order ≡ Less → {j : ℕ} → j ≡ slot s a .right → AtHigh s h k best j
     unfolding highLoop
-    high-right q w = go-right p ne w keep (λ b e x y. x) (λ b c e l r w. rw (told k en eo q e w))
+    high-right q w = go-right p ne w keep (λ b e x y. x) (λ b c e l r w. rw (told k en ec q e w))
 
-    pub high-stops : o ≡ Equal → (t : Tree) → Lies s h t → bound.At (Exact a) ≡ boundSlot (upperBound k t)
+    pub high-stops : z .order ≡ Equal → (t : Tree) → Lies s h t → bound.At (Exact a) ≡ boundSlot (upperBound k t)
     unfolding highLoop
     high-stops q t w =
-        stops p ne boundSlot (λ b c e l r i w. rw (told k en eo q e w) (ap (λ (j : ℕ). bound.At (Exact j)) (sym i))) t w
+        stops p ne boundSlot (λ b c e l r i w. rw (told k en ec q e w) (ap (λ (j : ℕ). bound.At (Exact j)) (sym i))) t w
         ∙ ap boundSlot (high-all k t)
 
-    pub high-left : o ≡ Greater → {j : ℕ} → j ≡ slot s a .left → AtHigh s h k (bound.At (Neighbor a)) j
+    pub high-left : z .order ≡ Greater → {j : ℕ} → j ≡ slot s a .left → AtHigh s h k (bound.At (Neighbor a)) j
     unfolding highLoop
-    high-left q w = go-left p ne w neighbor neighbor-here (λ b c e l r w. rw (told k en eo q e w))
+    high-left q w = go-left p ne w neighbor neighbor-here (λ b c e l r w. rw (told k en ec q e w))
 
 module _ {s : List ℕ} {h a : ℕ} (k : Key) {best : Bound} (p : AtPast s h k best a) where
   pub past-ends : a ≡ 0 → (t : Tree) → Lies s h t → best ≡ boundSlot (rightPrefixNeighbor k t)
   unfolding pastLoop
   past-ends e t w = ends p e boundSlot (λ b x. x) t w ∙ ap boundSlot (past-all k t)
 
-  module _ (ne : a ≡ 0 → ⊥) {n : Key} (en : n ≡ keyOf (slot s a)) {o : Ordering} (eo : o ≡ cmp n k) where
-    pub past-upto : (o ≡ Less) ⊎ (o ≡ Equal) → {j : ℕ} → j ≡ slot s a .right → AtPast s h k best j
+  module _ (ne : a ≡ 0 → ⊥) {n : Key} (en : n ≡ keyOf (slot s a)) {z : Compared} (ec : z ≡ compared n k) where
+    pub past-upto : (z .order ≡ Less) ⊎ (z .order ≡ Equal) → {j : ℕ} → j ≡ slot s a .right → AtPast s h k best j
     unfolding pastLoop
-    past-upto (inl q) w = go-right p ne w keep (λ b e x y. x) (λ b c e l r w. rw (told k en eo q e w))
-    past-upto (inr q) w = go-right p ne w keep (λ b e x y. x) (λ b c e l r w. rw (told k en eo q e w))
+    past-upto (inl q) w = go-right p ne w keep (λ b e x y. x) (λ b c e l r w. rw (told k en ec q e w))
+    past-upto (inr q) w = go-right p ne w keep (λ b e x y. x) (λ b c e l r w. rw (told k en ec q e w))
 
-    module _ (q : o ≡ Greater) {b : Bool} (eb : b ≡ isPrefixOf k n) where
-      begins : {v : Bool} → b ≡ v → (e : Entry) → e .key ≡ keyOf (slot s a) → isPrefixOf k (e .key) ≡ v
-      begins x e w = cc
+    module _ (q : z .order ≡ Greater) where
+      -- the node's key begins with the prefix just when all of the prefix agrees
+      begins : {v : Bool} → eqb (z .agree) (length k) ≡ v → (e : Entry) → e .key ≡ keyOf (slot s a) → isPrefixOf k (e .key) ≡ v
+      begins x e w =
+          let g = ap (λ (y : Compared). eqb (y .agree) (length k)) ec in
+          let f = begins-common k n in cc
 
-      pub past-right : b ≡ true → {j : ℕ} → j ≡ slot s a .right → AtPast s h k best j
+      pub past-right : z .agree ≡ length k → {j : ℕ} → j ≡ slot s a .right → AtPast s h k best j
       unfolding pastLoop
-      past-right x w = go-right p ne w keep (λ b e x y. x) (λ b c e l r w. rw (told k en eo q e w, begins x e w))
+      past-right x w = go-right p ne w keep (λ b e x y. x) (λ b c e l r w. rw (told k en ec q e w, begins (eq-eqb _ _ x) e w))
 
-      pub past-left : b ≡ false → {j : ℕ} → j ≡ slot s a .left → AtPast s h k (bound.At (Neighbor a)) j
+      pub past-left : (z .agree ≡ length k → ⊥) → {j : ℕ} → j ≡ slot s a .left → AtPast s h k (bound.At (Neighbor a)) j
       unfolding pastLoop
-      past-left x w = go-left p ne w neighbor neighbor-here (λ b c e l r w. rw (told k en eo q e w, begins x e w))
+      past-left x w = go-left p ne w neighbor neighbor-here (λ b c e l r w. rw (told k en ec q e w, begins (ne-eqb _ _ x) e w))
 
 -- ---- iteration: the best entry met so far is carried
 
@@ -208,12 +215,12 @@ module _ {s : List ℕ} {h a : ℕ} (k : Key) {best : Found} (p : AtNext s h k b
   unfolding nextLoop
   next-ends e t w = ends p e foundSlot (λ b x. x) t w ∙ ap foundSlot (next-loop k none t ∙ orEntry-none (nextEntry k t))
 
-  module _ (ne : a ≡ 0 → ⊥) {n : Key} (en : n ≡ keyOf (slot s a)) {o : Ordering} (eo : o ≡ cmp k n) where
-    pub next-left : o ≡ Less → {j : ℕ} → j ≡ slot s a .left → AtNext s h k (found.At a) j
+  module _ (ne : a ≡ 0 → ⊥) {n : Key} (en : n ≡ keyOf (slot s a)) {z : Compared} (ec : z ≡ compared k n) where
+    pub next-left : z .order ≡ Less → {j : ℕ} → j ≡ slot s a .left → AtNext s h k (found.At a) j
     unfolding nextLoop
-    next-left q w = go-left p ne w this (λ b e x y. ap found.At (sym y)) (λ b c e l r w. rw (after k en eo q e w))
+    next-left q w = go-left p ne w this (λ b e x y. ap found.At (sym y)) (λ b c e l r w. rw (after k en ec q e w))
 
-    pub next-right : (o ≡ Equal) ⊎ (o ≡ Greater) → {j : ℕ} → j ≡ slot s a .right → AtNext s h k best j
+    pub next-right : (z .order ≡ Equal) ⊎ (z .order ≡ Greater) → {j : ℕ} → j ≡ slot s a .right → AtNext s h k best j
     unfolding nextLoop
-    next-right (inl q) w = go-right p ne w keep (λ b e x y. x) (λ b c e l r w. rw (after k en eo q e w))
-    next-right (inr q) w = go-right p ne w keep (λ b e x y. x) (λ b c e l r w. rw (after k en eo q e w))
+    next-right (inl q) w = go-right p ne w keep (λ b e x y. x) (λ b c e l r w. rw (after k en ec q e w))
+    next-right (inr q) w = go-right p ne w keep (λ b e x y. x) (λ b c e l r w. rw (after k en ec q e w))

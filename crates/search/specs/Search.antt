@@ -1,6 +1,5 @@
 -- What it is that a store's bytes hold a tree below a slot, as one who only reads has to know it; and what searches answer.
 -- Where a bit lies is said by crate slots, what a node's slot is by crate store, what is searched for by crates llrb and witness_trees.
--- Assumes nothing: these are definitions.
 use mathlib.Core.Path.{_≡_}
 use mathlib.Core.List.{List}
 use mathlib.Core.Option.{Option, none, some}

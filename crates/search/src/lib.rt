@@ -2,7 +2,6 @@
 // down from the root and carries the best slot met so far.
 use key_order::Ordering;
 use key_order::compare;
-use key_order::is_prefix_of;
 ghost use mathlib.Core.Path.{_≡_};
 ghost use Prim.Native.Nat.{_≤_};
 ghost use lib.ListN.{length};
@@ -52,7 +51,9 @@ pub fn get(s: &[u8], root: usize, key: &[u8]) -> Found
         if at == 0 {
             break Found::Nothing;
         }
-        match compare(key, slots::key(s, at)) {
+        let c = compare(key, slots::key(s, at));
+        let order = c.order;
+        match order {
             Ordering::Equal => break Found::At(at),
             Ordering::Less => at = slots::left(s, at),
             Ordering::Greater => at = slots::right(s, at),
@@ -72,7 +73,9 @@ pub fn lower_bound(s: &[u8], root: usize, key: &[u8]) -> Bound
             break low;
         }
         let node_key = slots::key(s, at);
-        match compare(node_key, key) {
+        let c = compare(node_key, key);
+        let order = c.order;
+        match order {
             Ordering::Less => {
                 low = Bound::At(KeyBound::Neighbor(at));
                 at = slots::right(s, at);
@@ -95,7 +98,9 @@ pub fn upper_bound(s: &[u8], root: usize, key: &[u8]) -> Bound
             break high;
         }
         let node_key = slots::key(s, at);
-        match compare(node_key, key) {
+        let c = compare(node_key, key);
+        let order = c.order;
+        match order {
             Ordering::Less => at = slots::right(s, at),
             Ordering::Equal => break Bound::At(KeyBound::Exact(at)),
             Ordering::Greater => {
@@ -118,9 +123,11 @@ pub fn right_prefix_neighbor(s: &[u8], root: usize, prefix: &[u8]) -> Bound
             break neighbor;
         }
         let node_key = slots::key(s, at);
-        match compare(node_key, prefix) {
+        let c = compare(node_key, prefix);
+        let order = c.order;
+        match order {
             Ordering::Greater => {
-                if is_prefix_of(prefix, node_key) {
+                if c.agree == prefix.len() {
                     at = slots::right(s, at);
                 } else {
                     neighbor = Bound::At(KeyBound::Neighbor(at));
@@ -162,7 +169,9 @@ pub fn next_entry(s: &[u8], root: usize, key: &[u8]) -> Found
             break next;
         }
         let node_key = slots::key(s, at);
-        match compare(key, node_key) {
+        let c = compare(key, node_key);
+        let order = c.order;
+        match order {
             Ordering::Less => {
                 next = Found::At(at);
                 at = slots::left(s, at);

@@ -12,8 +12,6 @@ use types.Run.{OneOf}
 use borrow.Author.Tests.{le-leb, lt-leb, leb-true, leb-false, eq-eqb, ne-eqb, eqb-true, eqb-false}
 use lib.ListN.{length, getD, set, take, drop, length-drop}
 use lib.Seq.{take-all, take-length, drop-cons, drop-length}
-use Rattle.key_order.specs.declared.Ordering.{Ordering}
-use Rattle.key_order.specs.Order.{cmp, pick}
 use Rattle.bytes.specs.Bytes.{indexOf, slice}
 use Rattle.text.specs.Words.{withinOf, partOf, pieceOf, sameBytes, unblankOf, blankedOf, zerosBefore, placeOf, skipOf, wordsOf, startOf, restOf, wordOf, hasWords, indexFrom, indexIn}
 use Rattle.text.proofs.Splitting.{word-split, ends-by, goes-on}
@@ -65,9 +63,6 @@ module _ (s : List ℕ) (from len : ℕ) where
 
   pub piece-none : length s < from → [] ≡ pieceOf s from len
   piece-none p = let l : length s < from + len = omega arith in sym (rw (lt-leb (from + len) (length s) l) refl)
-
-pub told : (a b : List ℕ) (o r : Ordering) → r ≡ cmp a b → r ≡ o → pick o false true false ≡ sameBytes a b
-told a b o r h k = ap (λ (x : Ordering). pick x false true false) (sym k ∙ h)
 
 -- ---- places
 

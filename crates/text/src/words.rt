@@ -1,6 +1,5 @@
 // The words of a line: parted by zero bytes, which stand for blanks (`blanked`).
-use key_order::Ordering;
-use key_order::compare;
+use key_order::same;
 ghost use mathlib.Core.Path.{_≡_};
 ghost use Prim.Native.Nat.{_≤_};
 ghost use lib.ListN.{length};
@@ -39,11 +38,7 @@ pub fn piece(s: &[u8], from: usize, len: usize) -> &[u8]
 pub fn is(word: &[u8], name: &[u8]) -> bool
     ensures { λ r. ⌜ r ≡ sameBytes (now (word .entry)) (now (name .entry)) ⌝ }
 {
-    match compare(word, name) {
-        Ordering::Less => false,
-        Ordering::Equal => true,
-        Ordering::Greater => false,
-    }
+    same(word, name)
 }
 
 fn unblank(b: u8) -> u8

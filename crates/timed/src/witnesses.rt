@@ -3,11 +3,10 @@ ghost use mathlib.Core.Path.{_≡_};
 ghost use Prim.Native.Nat.{_≤_};
 ghost use lib.ListN.{length};
 ghost use Rattle.store.specs.Sound.{Sound};
-ghost use Rattle.store.specs.Calls.{reversed, keyRangeAnswer, valueRangeAnswer};
+ghost use Rattle.store.specs.Calls.{keyRangeAnswer, valueRangeAnswer};
 ghost use Rattle.timed.specs.Rows.{KeyRows, trees, witnessRows, keyRangeRows, valueRangeRows};
 use crate::KEY_ROW;
-use key_order::Ordering;
-use key_order::compare;
+use key_order::below;
 
 pub fn write_trees(s: &[u8], times: usize, out: &mut [u8])
     requires { ⌜ Sound (now s) ⌝ }
@@ -33,22 +32,12 @@ pub fn witness_rows(s: &[u8], keys: &[u8], key_length: usize, rows: usize, out: 
     }
 }
 
-fn above(first: &[u8], last: &[u8]) -> bool
-    ensures { λ r. ⌜ r ≡ reversed (now (first .entry)) (now (last .entry)) ⌝ }
-{
-    match compare(first, last) {
-        Ordering::Less => false,
-        Ordering::Equal => false,
-        Ordering::Greater => true,
-    }
-}
-
 fn key_range_row(s: &[u8], first: &[u8], last: &[u8], out: &mut [u8])
     requires { ⌜ Sound (now s) ⌝ }
     requires { ⌜ (length (now first) ≤ 48) × (length (now last) ≤ 48) ⌝ }
     ensures { λ _. ⌜ now (out .exit) ≡ keyRangeAnswer (now (first .entry)) (now (last .entry)) (now (s .entry)) (now (out .entry)) .output ⌝ }
 {
-    if above(first, last) {
+    if below(last, first) {
         return;
     }
     witness::key_range(s, first, last, out);
@@ -59,7 +48,7 @@ fn value_range_row(s: &[u8], first: &[u8], last: &[u8], out: &mut [u8])
     requires { ⌜ (length (now first) ≤ 48) × (length (now last) ≤ 48) ⌝ }
     ensures { λ _. ⌜ now (out .exit) ≡ valueRangeAnswer (now (first .entry)) (now (last .entry)) (now (s .entry)) (now (out .entry)) .output ⌝ }
 {
-    if above(first, last) {
+    if below(last, first) {
         return;
     }
     witness::value_range(s, first, last, out);

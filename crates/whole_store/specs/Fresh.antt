@@ -1,5 +1,4 @@
 -- A fresh store slot by slot: what `create` writes.
--- Assumes nothing: these are definitions.
 use mathlib.Core.Bool.{cond}
 use mathlib.Core.List.{List}
 use Prim.Native.Nat.{ℕ, _+_}

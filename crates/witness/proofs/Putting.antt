@@ -1,4 +1,4 @@
--- Bytes put one after the other, and the room that they leave, over plain lists. Assumes nothing.
+-- Bytes put one after the other, and the room that they leave, over plain lists.
 use Prim.Native.Nat.{ℕ, suc, _+_, _-_, _<_, _≤_}
 use mathlib.Core.Path.{_≡_, refl, sym, ap, _∙_}
 use mathlib.Core.Bool.{Bool, true, false}

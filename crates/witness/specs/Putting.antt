@@ -1,5 +1,4 @@
 -- What it is to put bytes at a place, the room that is left, and the contracts of the two walks over a tree in a store.
--- Assumes nothing: these are definitions.
 use mathlib.Core.Path.{_≡_}
 use mathlib.Core.Bool.{Bool, true, false}
 use mathlib.Core.List.{List}

@@ -1,4 +1,6 @@
 // The witnesses of a store, written: first the room that a witness takes, then its records, parent first.
+use answers::NO_ROOM;
+use answers::Saved;
 use hash_tree::EMPTY;
 use hash_tree::FORK;
 use hash_tree::LABELED;
@@ -31,7 +33,8 @@ ghost use Rattle.search.specs.Search.{EntryAt};
 ghost use Rattle.witness_walks.specs.Walked.{forkBytes};
 ghost use Rattle.witness_walks.specs.InStore.{entryIn, shownIn, middleIn, MiddleAt, hiddenIn, HiddenAt, hiddenLen};
 ghost use Rattle.witness.specs.Putting.{Puts, roomAfter, CanFit, Fits, CanWrite, Writes};
-ghost use Rattle.witness.specs.Saving.{answered, Saves, CanSave, CanRange};
+ghost use Rattle.answers.specs.Answers.{answered};
+ghost use Rattle.witness.specs.Saving.{Saves, CanSave, CanRange};
 ghost use mathlib.Core.Bool.{false};
 ghost use Rattle.store.specs.Sound.{Sound};
 ghost use Rattle.store.specs.Calls.{reversed, asHashTreeAnswer, keysAnswer, witnessAnswer, keyRangeAnswer, valueRangeAnswer, keysWithPrefixAnswer};
@@ -185,7 +188,6 @@ fn put_middle(s: &[u8], n: usize, middle: Middle, out: &mut [u8], at: usize) -> 
             let d = fork_hash(&m, digest(s, slots::right(s, n)));
             put_piece(out, at, PRUNED, &d)
         }
-        Middle::Whole => put_piece(out, at, PRUNED, digest(s, n)),
     }
 }
 
@@ -196,7 +198,6 @@ fn middle_len(s: &[u8], n: usize, middle: Middle) -> usize
     match middle {
         Middle::Entry(what) => shown_len(s, n, what),
         Middle::Both => 34,
-        Middle::Whole => 34,
     }
 }
 
@@ -254,19 +255,16 @@ fn write_tree(s: &[u8], n: usize, part: Part, f: What, out: &mut [u8], at: usize
 
 // ---- the calls, for callers that know the store to be sound and their arguments to be lawful
 
-// 0 and the length of the witness; or 6 and 0, and no byte of the output is changed.
-pub struct Saved {
-    pub number: usize,
-    pub size: usize,
-}
-
 // Writes the witness of a walk to the front of the output, if there is room for it.
 fn save(s: &[u8], n: usize, walk: Walk, f: What, out: &mut [u8]) -> Saved
     requires { ⌜ CanSave (now s) n walk ⌝ }
     ensures { λ r. ⌜ Saves (now (s .entry)) n walk f (now (out .entry)) (now (out .exit)) r ⌝ }
 {
     let Room::Left(_) = fit(s, n, Part::Walked(walk), f, Room::Left(out.len())) else {
-        return Saved { number: 6, size: 0 };
+        return Saved {
+            number: NO_ROOM,
+            size: 0,
+        };
     };
     let size = write_tree(s, n, Part::Walked(walk), f, out, 0);
     Saved { number: 0, size }

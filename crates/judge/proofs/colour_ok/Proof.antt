@@ -1,15 +1,11 @@
 use Rattle.judge.proofs.Testing.{any-colour, wants-black}
 use Rattle.judge.proofs.colour_ok.Statement.{statement}
 use Rattle.judge.proofs.colour_ok.Tie as tie
-use Rattle.judge.proofs.colour_ok.Reads as reads
-use Rattle.judge.proofs.colour_ok.Lts as lts
 
--- src/lib.rt:66:9
 returns : tie.Need-returns
 returns c =
     any-colour (c .before .args .red) (c .before .args .black) (c .if1 .taken)
 
--- src/lib.rt:62:1
 returns-2 : tie.Need-returns-2
 returns-2 c =
     wants-black (c .before .args .red) (c .before .args .black) (c .if1 .left)

@@ -7,75 +7,55 @@ use Rattle.judge.proofs.Testing.{fork-none, fork-right, fork-left, fork
 use borrow.Author.Needs.{needs}
 use Rattle.judge.proofs.fork_with.Statement.{statement}
 use Rattle.judge.proofs.fork_with.Tie as tie
-use Rattle.judge.proofs.fork_with.Reads as reads
-use Rattle.judge.proofs.fork_with.Lts as lts
-use Rattle.hash_tree.proofs.fork_hash.Reads as fork-hash-reads
-use Rattle.slots.proofs.digest.Reads as digest-reads
 
--- src/lib.rt:102:13
 returns : tie.Need-returns
 returns c =
     fork-none (c .before .before .before .args .left) (c .before .before .before .args .right) (digestOf (c .before .before .before .args .s .now) (c .before .before .before .args .left)) (c .before .before .before .args .t5) (digestOf (c .before .before .before .args .s .now) (c .before .before .before .args .right)) (c .before .if1 .taken) (c .if2 .taken)
 
--- src/lib.rt:104:26
 slice-aggregate-fork-hash : tie.Need-slice-aggregate-fork-hash
 slice-aggregate-fork-hash c = search needs
 
--- src/lib.rt:104:30
 digest-requires : tie.Need-digest-requires
 digest-requires c κs = search needs
 
--- src/lib.rt:104:9
 fork-hash-requires : tie.Need-fork-hash-requires
 fork-hash-requires c κs = search needs
 
--- src/lib.rt:104:9
 returns-2 : tie.Need-returns-2
 returns-2 c =
     fork-right (c .before .before .before .before .before .before .args .left) (c .before .before .before .before .before .before .args .right) (digestOf (c .before .before .before .before .before .before .args .s .now) (c .before .before .before .before .before .before .args .left)) (c .before .before .before .before .before .before .args .t5) (digestOf (c .before .before .before .before .before .before .args .s .now) (c .before .before .before .before .before .before .args .right)) (c .before .before .before .before .if1 .taken) (c .before .before .before .if2 .left) (c .fork-hash .ensures ∙ ap (forkHash (c .before .before .before .before .before .before .args .t5)) (c .before .digest .ensures))
 
--- src/lib.rt:107:26
 digest-requires-2 : tie.Need-digest-requires-2
 digest-requires-2 c κs = search needs
 
--- src/lib.rt:107:43
 slice-aggregate-fork-hash-2 : tie.Need-slice-aggregate-fork-hash-2
 slice-aggregate-fork-hash-2 c = search needs
 
--- src/lib.rt:107:9
 fork-hash-requires-2 : tie.Need-fork-hash-requires-2
 fork-hash-requires-2 c κs = search needs
 
--- src/lib.rt:107:9
 returns-3 : tie.Need-returns-3
 returns-3 c =
     fork-left (c .before .before .before .before .before .before .args .left) (c .before .before .before .before .before .before .args .right) (digestOf (c .before .before .before .before .before .before .args .s .now) (c .before .before .before .before .before .before .args .left)) (c .before .before .before .before .before .before .args .t5) (digestOf (c .before .before .before .before .before .before .args .s .now) (c .before .before .before .before .before .before .args .right)) (c .before .before .before .before .if1 .left) (c .before .before .before .if3 .taken) (c .fork-hash2 .ensures ∙ ap (λ (z : List ℕ). forkHash z (c .before .before .before .before .before .before .args .t5)) (c .before .before .digest2 .ensures))
 
--- src/lib.rt:109:23
 slice-aggregate-fork-hash-3 : tie.Need-slice-aggregate-fork-hash-3
 slice-aggregate-fork-hash-3 c = search needs
 
--- src/lib.rt:109:27
 digest-requires-3 : tie.Need-digest-requires-3
 digest-requires-3 c κs = search needs
 
--- src/lib.rt:109:13
 fork-hash-requires-3 : tie.Need-fork-hash-requires-3
 fork-hash-requires-3 c κs = search needs
 
--- src/lib.rt:110:15
 digest-requires-4 : tie.Need-digest-requires-4
 digest-requires-4 c κs = search needs
 
--- src/lib.rt:110:32
 slice-aggregate-fork-hash-4 : tie.Need-slice-aggregate-fork-hash-4
 slice-aggregate-fork-hash-4 c = search needs
 
--- src/lib.rt:110:5
 fork-hash-requires-4 : tie.Need-fork-hash-requires-4
 fork-hash-requires-4 c κs = search needs
 
--- src/lib.rt:95:1
 returns-4 : tie.Need-returns-4
 returns-4 c =
     fork-both (c .before .before .before .before .before .before .before .before .before .args .left) (c .before .before .before .before .before .before .before .before .before .args .right) (digestOf (c .before .before .before .before .before .before .before .before .before .args .s .now) (c .before .before .before .before .before .before .before .before .before .args .left)) (c .before .before .before .before .before .before .before .before .before .args .t5) (digestOf (c .before .before .before .before .before .before .before .before .before .args .s .now) (c .before .before .before .before .before .before .before .before .before .args .right)) (c .before .before .before .before .before .before .before .if1 .left) (c .before .before .before .before .before .before .if3 .left) (c .before .before .before .fork-hash3 .ensures ∙ ap (forkHash (c .before .before .before .before .before .before .before .before .before .args .t5)) (c .before .before .before .before .digest3 .ensures)) (c .fork-hash4 .ensures ∙ ap (λ (z : List ℕ). forkHash z (c .before .before .before .fork-hash3 .result)) (c .before .before .digest4 .ensures))

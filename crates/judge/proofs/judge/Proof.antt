@@ -7,72 +7,54 @@ use Rattle.judge.proofs.Deciding.{decides-no, decides-yes}
 use Rattle.judge.proofs.Judging.{long-of, header-says, walk-none, left-over, chain-says}
 use Rattle.judge.proofs.judge.Statement.{statement}
 use Rattle.judge.proofs.judge.Tie as tie
-use Rattle.judge.proofs.judge.Reads as reads
-use Rattle.judge.proofs.judge.Lts as lts
-use Rattle.judge.proofs.chain_ok.Reads as chain-ok-reads
-use Rattle.judge.proofs.header_ok.Reads as header-ok-reads
-use Rattle.judge.proofs.walk.Reads as walk-reads
-use Rattle.slots.proofs.header_of.Reads as header-of-reads
 
--- src/lib.rt:264:9
 returns : tie.Need-returns
 returns c =
     λ h. omega (arith, c .if1 .taken, long-of (c .before .before .args .s .now) h)
 
--- src/lib.rt:266:9
 header-of-requires : tie.Need-header-of-requires
 header-of-requires c κs =
     search needs
 
--- src/lib.rt:267:9
 header-ok-requires : tie.Need-header-ok-requires
 header-ok-requires c κs =
     search needs
 
--- src/lib.rt:268:9
 returns-2 : tie.Need-returns-2
 returns-2 c =
     λ x. decides-no (c .before .header-ok .result) (c .if2 .taken) (c .before .header-ok .ensures) (header-says (c .before .before .before .before .before .args .s .now) (c .before .before .header-of .ensures) x)
 
--- src/lib.rt:271:9
 walk-requires : tie.Need-walk-requires
 walk-requires c κs =
     let k = decides-yes (c .before .header-ok .result) (c .if2 .left) (c .before .header-ok .ensures) in
     (k .sized, (omega arith, record { within = omega arith; short = λ n. absurd (n refl) }))
 
--- src/lib.rt:270:22
 enum-known-last : tie.Need-enum-known-last
 enum-known-last c =
     search needs
 
--- src/lib.rt:273:9
 enum-told : tie.Need-enum-told
 enum-told c =
     search needs
 
--- src/lib.rt:273:9
 returns-3 : tie.Need-returns-3
 returns-3 c =
     walk-none (c .before .before .before .before .before .before .before .before .args .s .now) (c .before .before .before .before .before .header-of .ensures) (subst (WalkSays (c .before .before .before .before .before .before .before .before .args .s .now) (c .before .before .before .before .before .header-of .result .capacity) 20 (c .before .before .before .before .before .header-of .result .root) 0 (c .before .before .before .before .before .header-of .result .live) true) (c .enum-told .given .1) (c .before .before .walk .ensures))
 
--- src/lib.rt:276:9
 returns-4 : tie.Need-returns-4
 returns-4 c =
     left-over (c .before .before .before .before .before .before .before .before .before .before .args .s .now) (c .before .before .before .before .before .before .before .header-of .ensures) (subst (WalkSays (c .before .before .before .before .before .before .before .before .before .before .args .s .now) (c .before .before .before .before .before .before .before .header-of .result .capacity) 20 (c .before .before .before .before .before .before .before .header-of .result .root) 0 (c .before .before .before .before .before .before .before .header-of .result .live) true) (c .before .before .last .given .1) (c .before .before .before .before .walk .ensures)) (c .if3 .taken)
 
--- src/lib.rt:278:37
 sub-chain-ok : tie.Need-sub-chain-ok
 sub-chain-ok c =
     let k = decides-yes (c .before .before .before .before .before .before .before .header-ok .result) (c .before .before .before .before .before .before .if2 .left) (c .before .before .before .before .before .before .before .header-ok .ensures) in
     omega (arith, k .live)
 
--- src/lib.rt:278:5
 chain-ok-requires : tie.Need-chain-ok-requires
 chain-ok-requires c κs =
     let k = decides-yes (c .before .before .before .before .before .before .before .header-ok .result) (c .before .before .before .before .before .before .if2 .left) (c .before .before .before .before .before .before .before .header-ok .ensures) in
     k .sized
 
--- src/lib.rt:260:1
 returns-5 : tie.Need-returns-5
 returns-5 c =
     let k = decides-yes (c .before .before .before .before .before .before .before .before .header-ok .result) (c .before .before .before .before .before .before .before .if2 .left) (c .before .before .before .before .before .before .before .before .header-ok .ensures) in

@@ -3,39 +3,25 @@ use Rattle.judge.proofs.Testing.{linked-is}
 use borrow.Author.Needs.{needs}
 use Rattle.judge.proofs.node_digest.Statement.{statement}
 use Rattle.judge.proofs.node_digest.Tie as tie
-use Rattle.judge.proofs.node_digest.Reads as reads
-use Rattle.judge.proofs.node_digest.Lts as lts
-use Rattle.hash_tree.proofs.labeled_hash.Reads as labeled-hash-reads
-use Rattle.hash_tree.proofs.leaf_hash.Reads as leaf-hash-reads
-use Rattle.judge.proofs.fork_with.Reads as fork-with-reads
-use Rattle.slots.proofs.key_part.Reads as key-part-reads
-use Rattle.slots.proofs.value_part.Reads as value-part-reads
 
--- src/lib.rt:120:26
 value-part-requires : tie.Need-value-part-requires
 value-part-requires c κs = search needs
 
--- src/lib.rt:120:16
 leaf-hash-requires : tie.Need-leaf-hash-requires
 leaf-hash-requires c κs = search needs
 
--- src/lib.rt:121:26
 key-part-requires : tie.Need-key-part-requires
 key-part-requires c κs = search needs
 
--- src/lib.rt:121:56
 slice-aggregate-labeled-hash : tie.Need-slice-aggregate-labeled-hash
 slice-aggregate-labeled-hash c = search needs
 
--- src/lib.rt:121:9
 labeled-hash-requires : tie.Need-labeled-hash-requires
 labeled-hash-requires c κs = search needs
 
--- src/lib.rt:122:5
 fork-with-requires : tie.Need-fork-with-requires
 fork-with-requires c κs = search needs
 
--- src/lib.rt:113:1
 returns : tie.Need-returns
 returns c =
     linked-is (c .before .before .before .before .before .before .before .args .s .now) (c .before .before .before .before .before .before .before .args .cap) (c .before .before .before .before .before .before .before .args .i) true (c .before .before .before .before .before .before .before .pre .1 .1 .0) (c .before .before .before .before .before .value-part .ensures) (c .before .before .before .key-part .ensures) (c .before .before .before .before .leaf-hash .ensures) (c .before .labeled-hash .ensures) (c .fork-with .ensures)

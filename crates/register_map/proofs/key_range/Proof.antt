@@ -1,3 +1,4 @@
+use Rattle.key_order.proofs.Laws.{below-turn}
 use mathlib.Core.Path.{sym, _∙_}
 use Rattle.judge.proofs.Deciding.{decides-no, decides-yes}
 use Rattle.store.specs.Calls.{keyRangeAnswer}
@@ -5,71 +6,52 @@ use Rattle.register_map.proofs.Witnessing.{witness-unsound, first-long,
 use borrow.Author.Needs.{needs}
 use Rattle.register_map.proofs.key_range.Statement.{statement}
 use Rattle.register_map.proofs.key_range.Tie as tie
-use Rattle.register_map.proofs.key_range.Reads as reads
-use Rattle.register_map.proofs.key_range.Lts as lts
-use Rattle.judge.proofs.judge.Reads as judge-reads
-use Rattle.register_map.proofs.above.Reads as above-reads
-use Rattle.register_map.proofs.refuse.Reads as refuse-reads
-use Rattle.witness.proofs.key_range.Reads as key-range-reads
 
--- src/lib.rt:255:9
 judge-requires : tie.Need-judge-requires
 judge-requires c κs = search needs
 
--- src/lib.rt:256:9
 refuse-requires : tie.Need-refuse-requires
 refuse-requires c κs = search needs
 
--- src/lib.rt:256:9
 returns : tie.Need-returns
 unfolding keyRangeAnswer
 returns c =
     witness-unsound _ _ _ (decides-no (c .before .before .judge .result) (c .before .if1 .taken) (c .before .before .judge .ensures)) (c .refuse .ensures)
 
--- src/lib.rt:259:9
 refuse-requires-2 : tie.Need-refuse-requires-2
 refuse-requires-2 c κs = search needs
 
--- src/lib.rt:259:9
 returns-2 : tie.Need-returns-2
 unfolding keyRangeAnswer
 returns-2 c =
     first-long _ _ (decides-yes (c .before .before .before .judge .result) (c .before .before .if1 .left) (c .before .before .before .judge .ensures)) _ _ _ (c .before .if2 .taken) (c .refuse2 .ensures)
 
--- src/lib.rt:262:9
 refuse-requires-3 : tie.Need-refuse-requires-3
 refuse-requires-3 c κs = search needs
 
--- src/lib.rt:262:9
 returns-3 : tie.Need-returns-3
 unfolding keyRangeAnswer
 returns-3 c =
     last-long _ _ (decides-yes (c .before .before .before .before .judge .result) (c .before .before .before .if1 .left) (c .before .before .before .before .judge .ensures)) _ _ _ (c .before .before .if2 .left) (c .before .if3 .taken) (c .refuse3 .ensures)
 
--- src/lib.rt:264:8
-above-requires : tie.Need-above-requires
-above-requires c κs = search needs
+below-requires : tie.Need-below-requires
+below-requires c κs = search needs
 
--- src/lib.rt:265:9
 refuse-requires-4 : tie.Need-refuse-requires-4
 refuse-requires-4 c κs = search needs
 
--- src/lib.rt:265:9
 returns-4 : tie.Need-returns-4
 unfolding keyRangeAnswer
 returns-4 c =
-    range-reversed _ _ (decides-yes (c .before .before .before .before .before .before .judge .result) (c .before .before .before .before .before .if1 .left) (c .before .before .before .before .before .before .judge .ensures)) _ _ _ (c .before .before .before .before .if2 .left) (c .before .before .before .if3 .left) (c .before .before .above .ensures) (c .before .if4 .taken) (c .refuse4 .ensures)
+    range-reversed _ _ (decides-yes (c .before .before .before .before .before .before .judge .result) (c .before .before .before .before .before .if1 .left) (c .before .before .before .before .before .before .judge .ensures)) _ _ _ (c .before .before .before .before .if2 .left) (c .before .before .before .if3 .left) (c .before .before .below .ensures ∙ below-turn _ _) (c .before .if4 .taken) (c .refuse4 .ensures)
 
--- src/lib.rt:267:5
 key-range-requires : tie.Need-key-range-requires
 key-range-requires c κs =
-    (decides-yes (c .before .before .before .before .before .before .judge .result) (c .before .before .before .before .before .if1 .left) (c .before .before .before .before .before .before .judge .ensures), (c .before .before .before .before .if2 .left, c .before .before .before .if3 .left, sym (c .before .before .above .ensures) ∙ c .before .if4 .left))
+    (decides-yes (c .before .before .before .before .before .before .judge .result) (c .before .before .before .before .before .if1 .left) (c .before .before .before .before .before .before .judge .ensures), (c .before .before .before .before .if2 .left, c .before .before .before .if3 .left, sym (c .before .before .below .ensures ∙ below-turn _ _) ∙ c .before .if4 .left))
 
--- src/lib.rt:252:1
 same-length : tie.Need-same-length
 same-length c = search needs
 
--- src/lib.rt:252:1
 returns-5 : tie.Need-returns-5
 returns-5 c = search needs
 
@@ -84,7 +66,7 @@ key-range-spec =
     returns-2
     refuse-requires-3
     returns-3
-    above-requires
+    below-requires
     refuse-requires-4
     returns-4
     key-range-requires

@@ -3,9 +3,6 @@ use Rattle.search.proofs.Descent.{start, here-in, less-left}
 use Rattle.search.proofs.Searches.{AtFirst, first-ends, first-left}
 use Rattle.search.proofs.first_entry.Statement.{statement}
 use Rattle.search.proofs.first_entry.Tie as tie
-use Rattle.search.proofs.first_entry.Reads as reads
-use Rattle.search.proofs.first_entry.Lts as lts
-use Rattle.slots.proofs.left.Reads as left-reads
 
 abbrev Inv-loop : tie.InvT-loop
 Inv-loop s root best₀ at₀ best at = AtFirst s root best at
@@ -13,27 +10,22 @@ Inv-loop s root best₀ at₀ best at = AtFirst s root best at
 abbrev μ-loop : tie.MeasureT-loop
 μ-loop s root best₀ at₀ best at = entriesBelow s at
 
--- src/lib.rt:158:5
 loop-holds : tie.Need-loop-holds Inv-loop μ-loop
 loop-holds c =
     start (c .before .pre)
 
--- src/lib.rt:163:9
 left-requires : tie.Need-left-requires Inv-loop μ-loop
 left-requires c κs =
     here-in (c .before .loop .inv) (c .if1 .left) .inside
 
--- src/lib.rt:158:5
 loop-less : tie.Need-loop-less Inv-loop μ-loop
 loop-less c =
     less-left (c .before .before .loop .inv) (c .before .if1 .left) (c .left .ensures)
 
--- src/lib.rt:158:5
 loop-again : tie.Need-loop-again Inv-loop μ-loop
 loop-again c =
     first-left (c .before .before .loop .inv) (c .before .if1 .left) (c .left .ensures)
 
--- src/lib.rt:152:1
 returns : tie.Need-returns Inv-loop μ-loop
 returns c =
     first-ends (c .before .loop .inv) (c .if1 .taken)

@@ -4,12 +4,6 @@ use Rattle.search.proofs.Descent.{start, here-in, less-left, less-right
 use Rattle.search.proofs.Searches.{AtGet, get-ends, get-stops, get-left, get-right}
 use Rattle.search.proofs.get.Statement.{statement}
 use Rattle.search.proofs.get.Tie as tie
-use Rattle.search.proofs.get.Reads as reads
-use Rattle.search.proofs.get.Lts as lts
-use Rattle.key_order.proofs.compare.Reads as compare-reads
-use Rattle.slots.proofs.key.Reads as key-reads
-use Rattle.slots.proofs.left.Reads as left-reads
-use Rattle.slots.proofs.right.Reads as right-reads
 
 abbrev Inv-loop : tie.InvT-loop
 Inv-loop s root key at₀ at = AtGet s root key at
@@ -17,72 +11,58 @@ Inv-loop s root key at₀ at = AtGet s root key at
 abbrev μ-loop : tie.MeasureT-loop
 μ-loop s root key at₀ at = entriesBelow s at
 
--- src/lib.rt:48:5
 loop-holds : tie.Need-loop-holds Inv-loop μ-loop
 loop-holds c =
     start (c .before .before .pre)
 
--- src/lib.rt:52:13
 key-requires : tie.Need-key-requires Inv-loop μ-loop
 key-requires c κs =
     let w = here-in (c .before .loop .inv) (c .if1 .left) in (w .inside, w .key)
 
--- src/lib.rt:53:15
 compare-requires : tie.Need-compare-requires Inv-loop μ-loop
 compare-requires c κs =
     search needs
 
--- src/lib.rt:55:23
 enum-told : tie.Need-enum-told Inv-loop μ-loop
 enum-told c =
     search needs
 
--- src/lib.rt:58:17
 enum-told-2 : tie.Need-enum-told-2 Inv-loop μ-loop
 enum-told-2 c =
     search needs
 
--- src/lib.rt:58:17
 left-requires : tie.Need-left-requires Inv-loop μ-loop
 left-requires c κs =
     here-in (c .before .before .before .before .before .loop .inv) (c .before .before .before .before .if1 .left) .inside
 
--- src/lib.rt:48:5
 loop-less : tie.Need-loop-less Inv-loop μ-loop
 loop-less c =
     less-left (c .before .before .before .before .before .before .loop .inv) (c .before .before .before .before .before .if1 .left) (c .left .ensures)
 
--- src/lib.rt:48:5
 loop-again : tie.Need-loop-again Inv-loop μ-loop
 loop-again c =
     get-left _ (c .before .before .before .before .before .before .loop .inv) (c .before .before .before .before .before .if1 .left) (c .before .before .before .before .key .ensures) (c .before .before .before .compare .ensures) (c .before .enum-told2 .given .1) (c .left .ensures)
 
--- src/lib.rt:61:17
 enum-told-3 : tie.Need-enum-told-3 Inv-loop μ-loop
 enum-told-3 c =
     search needs
 
--- src/lib.rt:61:17
 right-requires : tie.Need-right-requires Inv-loop μ-loop
 right-requires c κs =
     here-in (c .before .before .before .before .before .loop .inv) (c .before .before .before .before .if1 .left) .inside
 
--- src/lib.rt:48:5
 loop-less-2 : tie.Need-loop-less-2 Inv-loop μ-loop
 loop-less-2 c =
     less-right (c .before .before .before .before .before .before .loop .inv) (c .before .before .before .before .before .if1 .left) (c .right .ensures)
 
--- src/lib.rt:48:5
 loop-again-2 : tie.Need-loop-again-2 Inv-loop μ-loop
 loop-again-2 c =
     get-right _ (c .before .before .before .before .before .before .loop .inv) (c .before .before .before .before .before .if1 .left) (c .before .before .before .before .key .ensures) (c .before .before .before .compare .ensures) (c .before .enum-told3 .given .1) (c .right .ensures)
 
--- src/lib.rt:43:1
 returns : tie.Need-returns Inv-loop μ-loop
 returns c =
     get-ends _ (c .before .loop .inv) (c .if1 .taken)
 
--- src/lib.rt:43:1
 returns-2 : tie.Need-returns-2 Inv-loop μ-loop
 returns-2 c =
     get-stops _ (c .before .before .before .before .before .loop .inv) (c .before .before .before .before .if1 .left) (c .before .before .before .key .ensures) (c .before .before .compare .ensures) (c .enum-told .given .1)

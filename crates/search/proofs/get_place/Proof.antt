@@ -6,27 +6,18 @@ use Rattle.search.proofs.Finding.{root-in, found-in, placed, get-each, 
 use borrow.Author.Needs.{needs}
 use Rattle.search.proofs.get_place.Statement.{statement}
 use Rattle.search.proofs.get_place.Tie as tie
-use Rattle.search.proofs.get_place.Reads as reads
-use Rattle.search.proofs.get_place.Lts as lts
-use Rattle.search.proofs.get.Reads as get-reads
-use Rattle.search.proofs.place_of.Reads as place-of-reads
-use Rattle.slots.proofs.header_of.Reads as header-of-reads
 
--- src/lib.rt:215:16
 header-of-requires : tie.Need-header-of-requires
 header-of-requires c κs = search needs
 
--- src/lib.rt:216:9
 get-requires : tie.Need-get-requires
 get-requires c κs =
     root-in (c .before .before .before .pre .0) (ap (λ (h : Header). h .root) (c .header-of .ensures))
 
--- src/lib.rt:217:5
 place-of-requires : tie.Need-place-of-requires
 place-of-requires c κs =
     found-in (c .before .before .before .before .pre .0) (ap (λ (h : Header). h .root) (c .before .header-of .ensures)) (get (c .before .before .before .before .args .key .now)) (get-each (Stored _) _) (c .get .ensures)
 
--- src/lib.rt:210:1
 returns : tie.Need-returns
 returns c =
     placed (c .before .before .before .before .before .pre .0) (ap (λ (h : Header). h .root) (c .before .before .header-of .ensures)) (get (c .before .before .before .before .before .args .key .now)) (get-each (Stored _) _) (c .before .get .ensures) (c .place-of .ensures) ∙ get-answer (c .before .before .before .before .before .pre .0 .1) _ (c .before .before .before .before .before .pre .1)

@@ -6,27 +6,18 @@ use Rattle.search.proofs.Finding.{root-in, found-in, placed, next-each,
 use borrow.Author.Needs.{needs}
 use Rattle.search.proofs.next_place.Statement.{statement}
 use Rattle.search.proofs.next_place.Tie as tie
-use Rattle.search.proofs.next_place.Reads as reads
-use Rattle.search.proofs.next_place.Lts as lts
-use Rattle.search.proofs.next_entry.Reads as next-entry-reads
-use Rattle.search.proofs.place_of.Reads as place-of-reads
-use Rattle.slots.proofs.header_of.Reads as header-of-reads
 
--- src/lib.rt:234:16
 header-of-requires : tie.Need-header-of-requires
 header-of-requires c κs = search needs
 
--- src/lib.rt:235:9
 next-entry-requires : tie.Need-next-entry-requires
 next-entry-requires c κs =
     root-in (c .before .before .before .pre .0) (ap (λ (h : Header). h .root) (c .header-of .ensures))
 
--- src/lib.rt:236:5
 place-of-requires : tie.Need-place-of-requires
 place-of-requires c κs =
     found-in (c .before .before .before .before .pre .0) (ap (λ (h : Header). h .root) (c .before .header-of .ensures)) (nextEntry (c .before .before .before .before .args .key .now)) (next-each (Stored _) _) (c .next-entry .ensures)
 
--- src/lib.rt:229:1
 returns : tie.Need-returns
 returns c =
     placed (c .before .before .before .before .before .pre .0) (ap (λ (h : Header). h .root) (c .before .before .header-of .ensures)) (nextEntry (c .before .before .before .before .before .args .key .now)) (next-each (Stored _) _) (c .before .next-entry .ensures) (c .place-of .ensures) ∙ next-answer (c .before .before .before .before .before .pre .0 .1) _ (c .before .before .before .before .before .pre .1)

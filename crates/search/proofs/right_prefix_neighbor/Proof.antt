@@ -4,13 +4,6 @@ use Rattle.search.proofs.Descent.{start, here-in, less-left, less-right
 use Rattle.search.proofs.Searches.{AtPast, past-ends, past-upto, less-or-equal, past-left, past-right}
 use Rattle.search.proofs.right_prefix_neighbor.Statement.{statement}
 use Rattle.search.proofs.right_prefix_neighbor.Tie as tie
-use Rattle.search.proofs.right_prefix_neighbor.Reads as reads
-use Rattle.search.proofs.right_prefix_neighbor.Lts as lts
-use Rattle.key_order.proofs.compare.Reads as compare-reads
-use Rattle.key_order.proofs.is_prefix_of.Reads as is-prefix-of-reads
-use Rattle.slots.proofs.key.Reads as key-reads
-use Rattle.slots.proofs.left.Reads as left-reads
-use Rattle.slots.proofs.right.Reads as right-reads
 
 abbrev Inv-loop : tie.InvT-loop
 Inv-loop s root prefix best₀ at₀ best at = AtPast s root prefix best at
@@ -18,77 +11,58 @@ Inv-loop s root prefix best₀ at₀ best at = AtPast s root prefix best at
 abbrev μ-loop : tie.MeasureT-loop
 μ-loop s root prefix best₀ at₀ best at = entriesBelow s at
 
--- src/lib.rt:128:5
 loop-holds : tie.Need-loop-holds Inv-loop μ-loop
 loop-holds c =
     start (c .before .before .pre)
 
--- src/lib.rt:132:13
 key-requires : tie.Need-key-requires Inv-loop μ-loop
 key-requires c κs =
     let w = here-in (c .before .loop .inv) (c .if1 .left) in (w .inside, w .key)
 
--- src/lib.rt:133:15
 compare-requires : tie.Need-compare-requires Inv-loop μ-loop
 compare-requires c κs =
     search needs
 
--- src/lib.rt:135:20
 enum-told : tie.Need-enum-told Inv-loop μ-loop
 enum-told c =
     search needs
 
--- src/lib.rt:135:20
-is-prefix-of-requires : tie.Need-is-prefix-of-requires Inv-loop μ-loop
-is-prefix-of-requires c κs =
-    search needs
-
--- src/lib.rt:136:21
 right-requires : tie.Need-right-requires Inv-loop μ-loop
 right-requires c κs =
     here-in (c .before .before .before .before .before .before .before .loop .inv) (c .before .before .before .before .before .before .if1 .left) .inside
 
--- src/lib.rt:128:5
 loop-less : tie.Need-loop-less Inv-loop μ-loop
 loop-less c =
     less-right (c .before .before .before .before .before .before .before .before .loop .inv) (c .before .before .before .before .before .before .before .if1 .left) (c .right .ensures)
 
--- src/lib.rt:128:5
 loop-again : tie.Need-loop-again Inv-loop μ-loop
 loop-again c =
-    past-right _ (c .before .before .before .before .before .before .before .before .loop .inv) (c .before .before .before .before .before .before .before .if1 .left) (c .before .before .before .before .before .before .key .ensures) (c .before .before .before .before .before .compare .ensures) (c .before .before .before .enum-told .given .1) (c .before .before .is-prefix-of .ensures) (c .before .if2 .taken) (c .right .ensures)
+    past-right _ (c .before .before .before .before .before .before .before .before .loop .inv) (c .before .before .before .before .before .before .before .if1 .left) (c .before .before .before .before .before .before .key .ensures) (c .before .before .before .before .before .compare .ensures) (c .before .before .before .enum-told .given .1) (c .before .if2 .taken) (c .right .ensures)
 
--- src/lib.rt:139:21
 left-requires : tie.Need-left-requires Inv-loop μ-loop
 left-requires c κs =
     here-in (c .before .before .before .before .before .before .before .loop .inv) (c .before .before .before .before .before .before .if1 .left) .inside
 
--- src/lib.rt:128:5
 loop-less-2 : tie.Need-loop-less-2 Inv-loop μ-loop
 loop-less-2 c =
     less-left (c .before .before .before .before .before .before .before .before .loop .inv) (c .before .before .before .before .before .before .before .if1 .left) (c .left .ensures)
 
--- src/lib.rt:128:5
 loop-again-2 : tie.Need-loop-again-2 Inv-loop μ-loop
 loop-again-2 c =
-    past-left _ (c .before .before .before .before .before .before .before .before .loop .inv) (c .before .before .before .before .before .before .before .if1 .left) (c .before .before .before .before .before .before .key .ensures) (c .before .before .before .before .before .compare .ensures) (c .before .before .before .enum-told .given .1) (c .before .before .is-prefix-of .ensures) (c .before .if2 .left) (c .left .ensures)
+    past-left _ (c .before .before .before .before .before .before .before .before .loop .inv) (c .before .before .before .before .before .before .before .if1 .left) (c .before .before .before .before .before .before .key .ensures) (c .before .before .before .before .before .compare .ensures) (c .before .before .before .enum-told .given .1) (c .before .if2 .left) (c .left .ensures)
 
--- src/lib.rt:143:17
 right-requires-2 : tie.Need-right-requires-2 Inv-loop μ-loop
 right-requires-2 c κs =
     here-in (c .before .before .before .before .loop .inv) (c .before .before .before .if1 .left) .inside
 
--- src/lib.rt:128:5
 loop-less-3 : tie.Need-loop-less-3 Inv-loop μ-loop
 loop-less-3 c =
     less-right (c .before .before .before .before .before .loop .inv) (c .before .before .before .before .if1 .left) (c .right2 .ensures)
 
--- src/lib.rt:128:5
 loop-again-3 : tie.Need-loop-again-3 Inv-loop μ-loop
 loop-again-3 c =
     past-upto _ (c .before .before .before .before .before .loop .inv) (c .before .before .before .before .if1 .left) (c .before .before .before .key .ensures) (c .before .before .compare .ensures) (less-or-equal _ (c .before .match .keys2)) (c .right2 .ensures)
 
--- src/lib.rt:122:1
 returns : tie.Need-returns Inv-loop μ-loop
 returns c =
     past-ends _ (c .before .loop .inv) (c .if1 .taken)
@@ -103,7 +77,6 @@ right-prefix-neighbor-spec =
     key-requires
     compare-requires
     enum-told
-    is-prefix-of-requires
     right-requires
     loop-less
     loop-again

@@ -4,26 +4,18 @@ use Rattle.whole_store.proofs.Answering.{count-refused, count-done}
 use borrow.Author.Needs.{needs}
 use Rattle.whole_store.proofs.count.Statement.{statement}
 use Rattle.whole_store.proofs.count.Tie as tie
-use Rattle.whole_store.proofs.count.Reads as reads
-use Rattle.whole_store.proofs.count.Lts as lts
-use Rattle.judge.proofs.judge.Reads as judge-reads
-use Rattle.slots.proofs.header_of.Reads as header-of-reads
 
--- src/lib.rt:104:9
 judge-requires : tie.Need-judge-requires
 judge-requires c κs = search needs
 
--- src/lib.rt:105:9
 returns : tie.Need-returns
 returns c =
     count-refused (decides-no (c .before .judge .result) (c .if1 .taken) (c .before .judge .ensures))
 
--- src/lib.rt:110:9
 header-of-requires : tie.Need-header-of-requires
 header-of-requires c κs =
     long-of (c .before .before .before .args .s .now) (decides-yes (c .before .judge .result) (c .if1 .left) (c .before .judge .ensures))
 
--- src/lib.rt:101:1
 returns-2 : tie.Need-returns-2
 returns-2 c =
     count-done (c .before .before .before .before .args .s .now) (decides-yes (c .before .before .judge .result) (c .before .if1 .left) (c .before .before .judge .ensures)) (c .header-of .ensures)

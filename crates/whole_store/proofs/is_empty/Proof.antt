@@ -4,26 +4,18 @@ use Rattle.whole_store.proofs.Answering.{empty-refused, empty-done}
 use borrow.Author.Needs.{needs}
 use Rattle.whole_store.proofs.is_empty.Statement.{statement}
 use Rattle.whole_store.proofs.is_empty.Tie as tie
-use Rattle.whole_store.proofs.is_empty.Reads as reads
-use Rattle.whole_store.proofs.is_empty.Lts as lts
-use Rattle.judge.proofs.judge.Reads as judge-reads
-use Rattle.slots.proofs.header_of.Reads as header-of-reads
 
--- src/lib.rt:121:9
 judge-requires : tie.Need-judge-requires
 judge-requires c κs = search needs
 
--- src/lib.rt:122:9
 returns : tie.Need-returns
 returns c =
     empty-refused (decides-no (c .before .judge .result) (c .if1 .taken) (c .before .judge .ensures))
 
--- src/lib.rt:127:9
 header-of-requires : tie.Need-header-of-requires
 header-of-requires c κs =
     long-of (c .before .before .before .args .s .now) (decides-yes (c .before .judge .result) (c .if1 .left) (c .before .judge .ensures))
 
--- src/lib.rt:118:1
 returns-2 : tie.Need-returns-2
 returns-2 c =
     empty-done (c .before .before .before .before .before .args .s .now) (decides-yes (c .before .before .before .judge .result) (c .before .before .if1 .left) (c .before .before .before .judge .ensures)) (c .before .header-of .ensures)

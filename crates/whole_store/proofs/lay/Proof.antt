@@ -7,12 +7,6 @@ use Rattle.whole_store.specs.Fresh.{chained}
 use Rattle.whole_store.proofs.Fresh.{header-fits, next-lt, chained-none, chained-next, chained-length, chained-slot, headed}
 use Rattle.whole_store.proofs.lay.Statement.{statement}
 use Rattle.whole_store.proofs.lay.Tie as tie
-use Rattle.whole_store.proofs.lay.Reads as reads
-use Rattle.whole_store.proofs.lay.Lts as lts
-use Rattle.slots.proofs.clear_slot.Reads as clear-slot-reads
-use Rattle.slots.proofs.set_header.Reads as set-header-reads
-use Rattle.whole_store.proofs.next.Reads as next-reads
-use Rattle.whole_store.proofs.wipe.Reads as wipe-reads
 
 abbrev Inv-loop : tie.InvT-loop
 Inv-loop s₀ cap i₀ s i = (i ≤ cap) × (s ≡ chained cap i (zeros (storeLength cap)))
@@ -20,52 +14,42 @@ Inv-loop s₀ cap i₀ s i = (i ≤ cap) × (s ≡ chained cap i (zeros (storeLe
 abbrev μ-loop : tie.MeasureT-loop
 μ-loop s₀ cap i₀ s i = cap - i
 
--- src/lib.rt:61:5
 wipe-requires : tie.Need-wipe-requires Inv-loop μ-loop
 wipe-requires c κs =
     search needs
 
--- src/lib.rt:63:5
 loop-holds : tie.Need-loop-holds Inv-loop μ-loop
 loop-holds c =
     (omega arith, chained-none (c .before .before .before .before .before .args .cap) (zeros (storeLength (c .before .before .before .before .before .args .cap))) _ (c .before .before .wipe .ensures ∙ ap zeros (c .before .before .before .before .before .pre .1 .len)))
 
--- src/lib.rt:64:17
 add-x : tie.Need-add-x Inv-loop μ-loop
 add-x c =
     omega (arith, c .before .before .before .before .before .before .before .pre .1 .most)
 
--- src/lib.rt:65:13
 next-requires : tie.Need-next-requires Inv-loop μ-loop
 next-requires c κs =
     omega (arith, c .before .before .before .before .before .before .before .pre .1 .most)
 
--- src/lib.rt:66:9
 clear-slot-requires : tie.Need-clear-slot-requires Inv-loop μ-loop
 clear-slot-requires c κs =
     (chained-slot (c .before .before .before .before .before .before .before .before .before .pre .1) (c .before .before .before .loop .i) (c .before .before .before .loop .s) (c .before .before .before .loop .inv .1) (c .before .before .before .loop .i + 1) (omega arith) (omega arith), omega (arith, c .before .next .ensures, next-lt (c .before .before .before .before .before .before .before .before .before .args .cap) (c .before .before .before .loop .i + 1) (omega (arith, c .before .before .before .before .before .before .before .before .before .pre .1 .most))))
 
--- src/lib.rt:63:5
 loop-less : tie.Need-loop-less Inv-loop μ-loop
 loop-less c =
     omega arith
 
--- src/lib.rt:63:5
 loop-again : tie.Need-loop-again Inv-loop μ-loop
 loop-again c =
     (omega arith, chained-next (c .before .before .before .before .before .before .before .before .before .before .before .before .args .cap) (c .before .before .before .before .before .before .loop .i) (c .before .before .before .before .before .before .loop .i + 1) (c .before .before .before .before .next .result) (zeros (storeLength (c .before .before .before .before .before .before .before .before .before .before .before .before .args .cap))) (c .before .before .before .before .before .before .loop .s) _ (omega arith) (c .before .before .before .before .next .ensures) (c .before .before .before .before .before .before .loop .inv .1) (c .before .before .clear-slot .ensures))
 
--- src/lib.rt:69:5
 set-header-requires : tie.Need-set-header-requires Inv-loop μ-loop
 set-header-requires c κs =
     (omega (arith, chained-length (c .before .before .before .before .before .before .before .before .pre .1) (c .before .before .loop .i) (c .before .before .loop .s) (c .before .before .loop .inv .1)), header-fits (c .before .before .before .before .before .before .before .before .args .cap) (c .before .before .before .before .before .before .before .before .pre .0) (c .before .before .before .before .before .before .before .before .pre .1 .most))
 
--- src/lib.rt:56:1
 same-length : tie.Need-same-length Inv-loop μ-loop
 same-length c =
     omega (arith, c .before .before .set-header .kept .0, chained-length (c .before .before .before .before .before .before .before .before .before .before .before .pre .1) (c .before .before .before .before .before .loop .i) (c .before .before .before .before .before .loop .s) (c .before .before .before .before .before .loop .inv .1), c .before .before .before .before .before .before .before .before .before .before .before .pre .1 .len)
 
--- src/lib.rt:56:1
 returns : tie.Need-returns Inv-loop μ-loop
 returns c =
     headed (c .before .before .before .before .before .before .before .before .before .before .before .args .cap) (c .before .before .before .before .before .loop .i) (c .before .before .before .before .before .loop .s) _ (c .before .before .before .before .before .before .before .before .before .before .before .pre .0) (c .before .before .before .before .before .before .before .before .before .before .before .pre .1 .most) (omega (arith, c .before .before .before .before .before .loop .inv .0)) (c .before .before .before .before .before .loop .inv .1) (c .before .before .set-header .ensures)

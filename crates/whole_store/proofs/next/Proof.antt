@@ -3,19 +3,14 @@ use Rattle.whole_store.proofs.Fresh.{next-last, next-on}
 use borrow.Author.Needs.{needs}
 use Rattle.whole_store.proofs.next.Statement.{statement}
 use Rattle.whole_store.proofs.next.Tie as tie
-use Rattle.whole_store.proofs.next.Reads as reads
-use Rattle.whole_store.proofs.next.Lts as lts
 
--- src/lib.rt:45:9
 returns : tie.Need-returns
 returns c =
     sym (next-last (c .before .args .cap) (c .before .args .x) (c .if1 .taken))
 
--- src/lib.rt:47:5
 add-result : tie.Need-add-result
 add-result c = search needs
 
--- src/lib.rt:40:1
 returns-2 : tie.Need-returns-2
 returns-2 c =
     sym (next-on (c .before .args .cap) (c .before .args .x) (c .if1 .left))

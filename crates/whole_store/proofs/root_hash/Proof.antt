@@ -6,43 +6,30 @@ use Rattle.whole_store.proofs.Answering.{root-refused, root-none, root-
 use borrow.Author.Needs.{needs}
 use Rattle.whole_store.proofs.root_hash.Statement.{statement}
 use Rattle.whole_store.proofs.root_hash.Tie as tie
-use Rattle.whole_store.proofs.root_hash.Reads as reads
-use Rattle.whole_store.proofs.root_hash.Lts as lts
-use Rattle.hash_tree.proofs.empty_hash.Reads as empty-hash-reads
-use Rattle.judge.proofs.judge.Reads as judge-reads
-use Rattle.slots.proofs.header_of.Reads as header-of-reads
-use Rattle.whole_store.proofs.stored_digest.Reads as stored-digest-reads
 
--- src/lib.rt:147:9
 judge-requires : tie.Need-judge-requires
 judge-requires c κs = search needs
 
--- src/lib.rt:148:9
 returns : tie.Need-returns
 returns c =
     root-refused (decides-no (c .before .judge .result) (c .if1 .taken) (c .before .judge .ensures))
 
--- src/lib.rt:153:9
 header-of-requires : tie.Need-header-of-requires
 header-of-requires c κs =
     long-of (c .before .before .before .args .s .now) (decides-yes (c .before .judge .result) (c .if1 .left) (c .before .judge .ensures))
 
--- src/lib.rt:158:21
 empty-hash-requires : tie.Need-empty-hash-requires
 empty-hash-requires c κs = search needs
 
--- src/lib.rt:156:9
 returns-2 : tie.Need-returns-2
 returns-2 c =
     root-none (c .before .before .before .before .before .before .args .s .now) (decides-yes (c .before .before .before .before .judge .result) (c .before .before .before .if1 .left) (c .before .before .before .before .judge .ensures)) (c .before .before .header-of .ensures) (c .before .if2 .taken) (c .empty-hash .ensures)
 
--- src/lib.rt:163:17
 stored-digest-requires : tie.Need-stored-digest-requires
 stored-digest-requires c κs =
     let a = decides-yes (c .before .before .before .judge .result) (c .before .before .if1 .left) (c .before .before .before .judge .ensures) in
     has-slot (header-of (c .before .before .before .before .before .args .s .now) a .sized) (omega (arith, c .if2 .left)) (root-within (c .before .before .before .before .before .args .s .now) a (c .before .header-of .ensures))
 
--- src/lib.rt:144:1
 returns-3 : tie.Need-returns-3
 returns-3 c =
     root-some (c .before .before .before .before .before .before .args .s .now) (decides-yes (c .before .before .before .before .judge .result) (c .before .before .before .if1 .left) (c .before .before .before .before .judge .ensures)) (c .before .before .header-of .ensures) (c .before .if2 .left) (c .stored-digest .ensures)

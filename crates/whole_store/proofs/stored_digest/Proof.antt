@@ -6,25 +6,17 @@ use Rattle.whole_store.proofs.Answering.{copied}
 use borrow.Author.Needs.{needs}
 use Rattle.whole_store.proofs.stored_digest.Statement.{statement}
 use Rattle.whole_store.proofs.stored_digest.Tie as tie
-use Rattle.whole_store.proofs.stored_digest.Reads as reads
-use Rattle.whole_store.proofs.stored_digest.Lts as lts
-use Rattle.bytes.proofs.copy.Reads as copy-reads
-use Rattle.slots.proofs.digest.Reads as digest-reads
 
--- src/lib.rt:139:17
 digest-requires : tie.Need-digest-requires
 digest-requires c κs = search needs
 
--- src/lib.rt:139:38
 slice-aggregate-copy : tie.Need-slice-aggregate-copy
 slice-aggregate-copy c = search needs
 
--- src/lib.rt:139:5
 copy-requires : tie.Need-copy-requires
 copy-requires c κs =
     omega (arith, ap length (c .before .digest .ensures), digest-length (c .before .before .before .args .s .now) (c .before .before .before .args .i) (c .before .before .before .pre))
 
--- src/lib.rt:134:1
 returns : tie.Need-returns
 returns c =
     copied (c .before .before .before .digest .result .now) _ _ (omega (arith, ap length (c .before .before .before .digest .ensures), digest-length (c .before .before .before .before .before .args .s .now) (c .before .before .before .before .before .args .i) (c .before .before .before .before .before .pre))) (c .before .copy .ensures .1) ∙ c .before .before .before .digest .ensures

@@ -9,27 +9,21 @@ use Rattle.hash_tree.proofs.leaf_hash.Reads as leaf-hash-reads
 use Rattle.slots.proofs.key.Reads as key-reads
 use Rattle.slots.proofs.value.Reads as value-reads
 
--- src/lib.rt:551:23
 value-requires : tie.Need-value-requires
 value-requires c κs = search needs
 
--- src/lib.rt:551:13
 leaf-hash-requires : tie.Need-leaf-hash-requires
 leaf-hash-requires c κs = search needs
 
--- src/lib.rt:552:18
 key-requires : tie.Need-key-requires
 key-requires c κs = search needs
 
--- src/lib.rt:552:29
 slice-aggregate-labeled-hash : tie.Need-slice-aggregate-labeled-hash
 slice-aggregate-labeled-hash c = search needs
 
--- src/lib.rt:552:5
 labeled-hash-requires : tie.Need-labeled-hash-requires
 labeled-hash-requires c κs = search needs
 
--- src/lib.rt:547:1
 returns : tie.Need-returns
 returns c =
     c .labeled-hash .ensures ∙ rw (c .before .before .key .ensures, c .before .before .before .leaf-hash .ensures, c .before .before .before .before .value .ensures)

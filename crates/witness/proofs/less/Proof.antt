@@ -5,24 +5,19 @@ use Rattle.witness.proofs.less.Tie as tie
 use Rattle.witness.proofs.less.Reads as reads
 use Rattle.witness.proofs.less.Lts as lts
 
--- src/lib.rt:274:20
 enum-known-room : tie.Need-enum-known-room
 enum-known-room c = search needs
 
--- src/lib.rt:275:9
 enum-told : tie.Need-enum-told
 enum-told c = search needs
 
--- src/lib.rt:275:9
 returns : tie.Need-returns
 returns c = search needs
 
--- src/lib.rt:271:1
 returns-2 : tie.Need-returns-2
 returns-2 c =
     rw (c .before .before .room .given .1, le-leb _ _ (c .if1 .taken))
 
--- src/lib.rt:271:1
 returns-3 : tie.Need-returns-3
 returns-3 c =
     rw (c .before .before .room .given .1, lt-leb _ _ (c .if1 .left))

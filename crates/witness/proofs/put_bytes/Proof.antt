@@ -16,46 +16,36 @@ Inv-loop out₀ at src i₀ out i = (i ≤ length src) × (length out ≡ length
 abbrev μ-loop : tie.MeasureT-loop
 μ-loop out₀ at src i₀ out i = length src - i
 
--- src/lib.rt:358:5
 loop-holds : tie.Need-loop-holds Inv-loop μ-loop
 loop-holds c = (search needs, refl, refl)
 
--- src/lib.rt:359:23
 shared-slice-read-out : tie.Need-shared-slice-read-out Inv-loop μ-loop
 shared-slice-read-out c = search needs
 
--- src/lib.rt:359:13
 add-out : tie.Need-add-out Inv-loop μ-loop
 add-out c = search needs
 
--- src/lib.rt:359:9
 slice-write-out : tie.Need-slice-write-out Inv-loop μ-loop
 slice-write-out c = search needs
 
--- src/lib.rt:360:9
 add-i : tie.Need-add-i Inv-loop μ-loop
 add-i c = search needs
 
--- src/lib.rt:358:5
 loop-less : tie.Need-loop-less Inv-loop μ-loop
 loop-less c = search needs
 
--- src/lib.rt:358:5
 loop-again : tie.Need-loop-again Inv-loop μ-loop
 loop-again c =
     let a = c .before .before .before .args in
     let l = c .before .before .loop in
     (search needs, simp length-set (l .inv .1), rw (l .inv .2) (sets-next (a .out .now) (a .at) (a .src .now) (l .i) (search needs)))
 
--- src/lib.rt:362:5
 add-result : tie.Need-add-result Inv-loop μ-loop
 add-result c = search needs
 
--- src/lib.rt:353:1
 same-length : tie.Need-same-length Inv-loop μ-loop
 same-length c = search needs
 
--- src/lib.rt:353:1
 returns : tie.Need-returns Inv-loop μ-loop
 returns c =
     let a = c .before .before .args in

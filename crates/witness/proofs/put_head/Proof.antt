@@ -8,44 +8,34 @@ use Rattle.witness.proofs.put_head.Tie as tie
 use Rattle.witness.proofs.put_head.Reads as reads
 use Rattle.witness.proofs.put_head.Lts as lts
 
--- src/lib.rt:291:16
 mul-out : tie.Need-mul-out
 mul-out c = search needs
 
--- src/lib.rt:291:16
 add-out : tie.Need-add-out
 add-out c = search needs
 
--- src/lib.rt:291:15
 cast-out : tie.Need-cast-out
 cast-out c = search needs
 
--- src/lib.rt:291:5
 slice-write-out : tie.Need-slice-write-out
 slice-write-out c = search needs
 
--- src/lib.rt:292:19
 cast-out-2 : tie.Need-cast-out-2
 cast-out-2 c = search needs
 
--- src/lib.rt:292:9
 add-out-2 : tie.Need-add-out-2
 add-out-2 c = search needs
 
--- src/lib.rt:292:5
 slice-write-out-2 : tie.Need-slice-write-out-2
 slice-write-out-2 c =
     simp length-set (omega arith)
 
--- src/lib.rt:293:5
 add-result : tie.Need-add-result
 add-result c = search needs
 
--- src/lib.rt:287:1
 same-length : tie.Need-same-length
 same-length c = search needs
 
--- src/lib.rt:287:1
 returns : tie.Need-returns
 returns c =
     record { place = refl; bytes = rw add-one }

@@ -8,21 +8,17 @@ use Rattle.witness.proofs.put_piece.Lts as lts
 use Rattle.witness.proofs.put_bytes.Reads as put-bytes-reads
 use Rattle.witness.proofs.put_head.Reads as put-head-reads
 
--- src/lib.rt:313:9
 put-head-requires : tie.Need-put-head-requires
 put-head-requires c κs =
     omega (arith, piece-length (c .before .before .before .args .kind) (c .before .before .before .args .src .now))
 
--- src/lib.rt:314:5
 put-bytes-requires : tie.Need-put-bytes-requires
 put-bytes-requires c κs =
     omega (arith, piece-length (c .before .before .before .before .before .before .before .args .kind) (c .before .before .before .before .before .before .before .args .src .now), c .before .before .before .put-head .ensures .place, c .before .before .before .put-head .kept .0)
 
--- src/lib.rt:309:1
 same-length : tie.Need-same-length
 same-length c = search needs
 
--- src/lib.rt:309:1
 returns : tie.Need-returns
 returns c =
     puts-piece (c .before .before .before .before .before .before .before .before .before .before .args .kind) (c .before .before .before .before .before .before .before .before .before .before .args .src .now) (c .before .before .before .before .before .before .put-head .ensures) (c .before .before .put-bytes .ensures)

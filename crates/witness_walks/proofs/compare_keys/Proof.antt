@@ -2,27 +2,19 @@ use mathlib.Core.Path.{_∙_}
 use borrow.Author.Needs.{needs}
 use Rattle.witness_walks.proofs.compare_keys.Statement.{statement}
 use Rattle.witness_walks.proofs.compare_keys.Tie as tie
-use Rattle.witness_walks.proofs.compare_keys.Reads as reads
-use Rattle.witness_walks.proofs.compare_keys.Lts as lts
-use Rattle.key_order.proofs.compare.Reads as compare-reads
-use Rattle.slots.proofs.key.Reads as key-reads
 
--- src/lib.rt:357:13
 key-requires : tie.Need-key-requires
 key-requires c κs = search needs
 
--- src/lib.rt:357:24
 key-requires-2 : tie.Need-key-requires-2
 key-requires-2 c κs = search needs
 
--- src/lib.rt:357:5
-compare-requires : tie.Need-compare-requires
-compare-requires c κs = search needs
+order-requires : tie.Need-order-requires
+order-requires c κs = search needs
 
--- src/lib.rt:352:1
 returns : tie.Need-returns
 returns c =
-    c .compare .ensures ∙ rw (c .before .before .key .ensures, c .before .key2 .ensures)
+    c .order .ensures ∙ rw (c .before .before .key .ensures, c .before .key2 .ensures)
 
 pub compare-keys-spec : {M : Type 1} → statement M
-compare-keys-spec = tie.close (tie.spec key-requires key-requires-2 compare-requires returns)
+compare-keys-spec = tie.close (tie.spec key-requires key-requires-2 order-requires returns)
