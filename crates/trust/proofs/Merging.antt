@@ -4,27 +4,29 @@ use Prim.Native.Nat.{ℕ, _≤_}
 use mathlib.Core.Path.{_≡_, refl, sym, ap, _∙_}
 use mathlib.Core.Bool.{Bool, true, false, cond}
 use mathlib.Core.Logic.{_⊎_, inl, inr}
-use mathlib.Core.List.{List, [], _∷_, _++_}
+use mathlib.Core.List.{List, [], _∷_}
 use mathlib.Core.Option.{none}
 use native.Mathlib.Omega.{arith}
-use lib.ListN.{length, drop}
+use lib.ListN.{length}
 use lib.Dec.{ltb}
+use Rattle.answers.specs.Numbers.{NoRoom, refused, done}
+use Rattle.answers.specs.Answers.{Written, written}
 use Rattle.key_order.specs.Order.{Key}
 use Rattle.hash_tree.specs.declared.Rebuilt.{Rebuilt}
 use Rattle.hash_tree.specs.HashTree.{HashTree}
 use Rattle.hash_tree.specs.Written.{write, Lawful, maxDepth}
 use Rattle.hash_tree.specs.Parse.{Parsed, Got, Bad, parse, Bytes}
-use Rattle.hash_tree.specs.Whole.{rebuilt, accepted, refused, alone}
+use Rattle.hash_tree.specs.Whole.{rebuilt, accepted, alone}
+use Rattle.hash_tree.specs.Whole as whole-tree
 use Rattle.hash_tree.proofs.Promises.{accepts, zero-or-refused}
 use Rattle.hash_tree.specs.Prune.{Prunes}
 use Rattle.lookup.specs.declared.Looked.the-variants as looked
 use Rattle.lookup.specs.Answer.{lookupAnswer}
 use Rattle.lookup.specs.Lookup.{WellFormed}
 use Rattle.merge.specs.Merge.{merged}
-use Rattle.merge.specs.Answer.{Written as Merged, whole, refusal, putFront, ofMerge, mergeAnswer}
+use Rattle.merge.specs.Answer.{whole, putFront, ofMerge, mergeAnswer}
 use Rattle.merge.proofs.Laws.{merged-own, merged-lawful, merged-prunes, merges-merged, merges-digest, merges-lawful}
 use Rattle.merge.proofs.Promises.{merge-trees}
-use Rattle.store.specs.Answers.{Written}
 use Rattle.store.specs.Sound.{Sound}
 use Rattle.store.proofs.Decoding.{sound-decodes}
 use Rattle.trust.specs.Collision.{Collision}
@@ -38,7 +40,7 @@ use Rattle.trust.proofs.Opening.{silent-too}
 pub not-15 : (out w : List ℕ) → putFront out w .number ≡ 15 → ⊥
 not-15 out w e = go (ltb (length out) (length w)) e
   where
-    go : (b : Bool) → cond b (refusal 6 out) (record { number = 0; size = length w; output = w ++ drop (length w) out }) .number ≡ 15 → ⊥
+    go : (b : Bool) → written out (cond b (refused NoRoom) (done w)) .number ≡ 15 → ⊥
     go true h = omega (arith, h)
     go false h = omega (arith, h)
 
@@ -74,7 +76,7 @@ files-merge v w out bv bw z e =
           })),
     )
 
-refused-none : (z : Parsed) → alone z ≡ refused → whole z ≡ none
+refused-none : (z : Parsed) → alone z ≡ whole-tree.refused → whole z ≡ none
 refused-none (Got t []) e = absurd (omega (arith, ap (λ (r : Rebuilt). r .number) e))
 refused-none (Got t (x ∷ rest)) e = refl
 refused-none Bad e = refl
@@ -87,7 +89,7 @@ not-nine v w out e = go (zero-or-refused v)
     nine : whole (parse maxDepth v) ≡ none → mergeAnswer v w out .number ≡ 9
     nine i = rw i
 
-    go : (rebuilt v .number ≡ 0) ⊎ (rebuilt v ≡ refused) → rebuilt v .number ≡ 0
+    go : (rebuilt v .number ≡ 0) ⊎ (rebuilt v ≡ whole-tree.refused) → rebuilt v .number ≡ 0
     go (inl z) = z
     go (inr r) = absurd (omega (arith, e, nine (refused-none (parse maxDepth v) r)))
 
@@ -100,7 +102,7 @@ fifteen v w out bv bw n e =
   where
     go : {x y : HashTree} → Collision x y ⊎ Joins v w out → Collision x y
     go (inl c) = c
-    go (inr j) = absurd (not-15 out (write (j .tree)) (ap (λ (r : Merged). r .number) (sym (j .answer)) ∙ n))
+    go (inr j) = absurd (not-15 out (write (j .tree)) (ap (λ (r : Written). r .number) (sym (j .answer)) ∙ n))
 
 -- ---- of one store
 
@@ -130,7 +132,7 @@ truths-merge s h x y v w p q out =
       answer = e;
       truth = t;
       known = λ k n u. (silent-in v x (m .0) (p .tells .reads) (p .honest .wellFormed) (d .0) l (t .honest .wellFormed) k n u, silent-in w y (m .0) (q .tells .reads) (q .honest .wellFormed) (d .1) l (t .honest .wellFormed) k n u);
-      never15 = λ n. not-15 out (write (m .0)) (ap (λ (r : Merged). r .number) (sym e) ∙ n);
+      never15 = λ n. not-15 out (write (m .0)) (ap (λ (r : Written). r .number) (sym e) ∙ n);
     }
 
 -- ANY TWO WITNESSES THAT THE LIBRARY WROTE of one sound store, by any of the six calls, merge
