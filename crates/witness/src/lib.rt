@@ -115,8 +115,7 @@ fn data_hash(s: &[u8], n: usize) -> [u8; 32]
     requires { ⌜ EntryAt (now s) n ⌝ }
     ensures { λ r. ⌜ r ≡ dataDigest (entryIn (now (s .entry)) n) ⌝ }
 {
-    let v = leaf_hash(value(s, n));
-    labeled_hash(key(s, n), &v)
+    entries::data_digest(s, n)
 }
 
 // `left_hash_tree`, `right_hash_tree`: Empty, or Pruned to the stored digest.
