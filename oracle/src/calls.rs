@@ -1,5 +1,6 @@
 //! The program `calls`, a line at a time, answered by the Rust's own map.
 use crate::hash_tree::{rebuild, HashTree};
+use crate::readings::{ask, merge, Parts};
 use crate::rb_tree::AsHashTree;
 use crate::sha256::sha256;
 use crate::store::{judge, place, Store};
@@ -15,6 +16,7 @@ pub struct Calls {
     /// The store has changed since `bytes` was written.
     ahead: bool,
     room: usize,
+    parts: Parts,
 }
 
 pub fn hex(bytes: &[u8]) -> String {
@@ -24,7 +26,7 @@ pub fn hex(bytes: &[u8]) -> String {
     bytes.iter().map(|b| format!("{b:02x}")).collect()
 }
 
-fn unhex(word: &str) -> Option<Vec<u8>> {
+pub fn unhex(word: &str) -> Option<Vec<u8>> {
     if word == "-" {
         return Some(vec![]);
     }
@@ -52,7 +54,7 @@ fn upto(word: &str, most: usize) -> Option<usize> {
 
 impl Calls {
     pub fn new() -> Calls {
-        Calls { bytes: vec![], store: None, ahead: false, room: 0 }
+        Calls { bytes: vec![], store: None, ahead: false, room: 0, parts: Parts::default() }
     }
 
     fn now(&mut self) -> &mut Vec<u8> {
@@ -250,6 +252,11 @@ impl Calls {
                 None => format!("9 {}", hex(&[0; 32])),
                 Some(digest) => format!("0 {}", hex(&digest)),
             },
+            ["ask", w, k] => ask(&unhex(w)?, &unhex(k)?),
+            ["merge", one, other] => merge(&unhex(one)?, &unhex(other)?, self.room),
+            ["begin"] => self.parts.begin(),
+            ["part", bytes] => self.parts.part(&unhex(bytes)?),
+            ["end"] => self.parts.end(),
             ["hash", m] => {
                 let message = unhex(m)?;
                 if message.len() > 65_536 {

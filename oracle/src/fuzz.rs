@@ -66,6 +66,64 @@ fn nested(r: &mut Random, depth: usize) -> HashTree {
     tree
 }
 
+/// A forest as other makers may write one: labels mostly rising, parts hidden, leaves where none may stand.
+fn forest(r: &mut Random, depth: usize, least: &mut u8) -> HashTree {
+    match r.below(if depth == 0 { 6 } else { 12 }) {
+        0 => empty(),
+        1 => pruned([r.below(3) as u8; 32]),
+        2 if r.chance(4) => leaf(r.bytes(1)),
+        2..=5 => {
+            *least = least.wrapping_add([0, 1, 1, 1, 2, 2][r.below(6)]);
+            let child = if depth == 0 || r.chance(2) { leaf(r.bytes(2)) } else { forest(r, depth - 1, &mut 0) };
+            labeled(vec![*least; r.below(3)], child)
+        }
+        _ => fork(forest(r, depth - 1, least), forest(r, depth - 1, least)),
+    }
+}
+
+/// The tree with some parts cut to their digests.
+fn cut(r: &mut Random, tree: HashTreeNode) -> HashTreeNode {
+    if r.chance(6) {
+        return HashTreeNode::Pruned(tree.digest());
+    }
+    match tree {
+        HashTreeNode::Fork(both) => HashTreeNode::Fork(Box::new((cut(r, both.0), cut(r, both.1)))),
+        HashTreeNode::Labeled(label, child) => HashTreeNode::Labeled(label, Box::new(cut(r, *child))),
+        other => other,
+    }
+}
+
+/// Lines about witnesses alone: two of one tree, of two trees, damaged ones; asked, merged, in parts.
+fn reading(r: &mut Random, store: &Store) -> Vec<String> {
+    let tree = if r.chance(3) { store.map.as_hash_tree().root } else { forest(r, 5, &mut 0).root };
+    let mut pair = [cut(r, tree.clone()), cut(r, tree)].map(|tree| {
+        let mut out = vec![];
+        tree.write(&mut out);
+        out
+    });
+    if r.chance(3) {
+        pair[0] = witness(r, store);
+    } else if r.chance(6) {
+        turn_bit(r, &mut pair[1]);
+    }
+    let [one, other] = pair;
+    match r.below(4) {
+        0 => {
+            let room = [131_072, one.len(), other.len(), one.len() + 1, r.below(one.len() + 2)][r.below(5)];
+            vec![format!("room {}", room.min(131_072)), format!("merge {} {}", hex(&one), hex(&other))]
+        }
+        1 => {
+            let at = r.below(one.len() + 1);
+            vec!["begin".into(), format!("part {}", hex(&one[..at])), "end".into(), format!("part {}", hex(&one[at..])), "end".into()]
+        }
+        _ => {
+            let letter = r.below(8) as u8;
+            let k = if r.chance(2) { key(r, store) } else { vec![letter; r.below(3)] };
+            vec![format!("ask {} {}", hex(&one), hex(&k))]
+        }
+    }
+}
+
 /// A record of any kind and length, with as many bytes or fewer or more.
 fn record(r: &mut Random) -> Vec<u8> {
     let length = if r.chance(8) { r.below(8192) } else { r.below(70) };
@@ -200,7 +258,8 @@ pub fn script(seed: u64, lines: usize) -> Vec<Vec<u8>> {
                 0..=8 => out.push(call(&mut r, &store).into_bytes()),
                 9..=14 => out.extend(shown(&mut r, &store).map(String::into_bytes)),
                 15 | 16 => out.push(format!("rebuild {}", hex(&witness(&mut r, &store))).into_bytes()),
-                17 => out.push(format!("hash {}", hex(&message(&mut r))).into_bytes()),
+                17 => out.extend(reading(&mut r, &store).into_iter().map(String::into_bytes)),
+                18 if r.chance(2) => out.push(format!("hash {}", hex(&message(&mut r))).into_bytes()),
                 _ => out.push(broken(&mut r)),
             }
             out.push("sum".into());

@@ -15,15 +15,17 @@ fn numbers(call: &str) -> &'static [usize] {
         "full" | "keys" => &[0, 1, 6],
         "witness" | "prefix" => &[0, 1, 2, 6],
         "krange" | "vrange" => &[0, 1, 2, 4, 6],
-        "rebuild" => &[0, 9],
+        "rebuild" | "part" | "end" => &[0, 9],
+        "ask" => &[0, 2, 9, 11],
+        "merge" => &[0, 6, 9, 15],
         "hash" => &[0, 10],
         _ => &[],
     }
 }
 
-const CALLS: [&str; 18] = [
+const CALLS: [&str; 22] = [
     "create", "insert", "modify", "delete", "get", "first", "next", "count", "empty", "root", "full", "keys", "witness", "krange", "vrange",
-    "prefix", "rebuild", "hash",
+    "prefix", "rebuild", "hash", "ask", "merge", "part", "end",
 ];
 
 /// What stands after the number of a refused call.
@@ -32,8 +34,9 @@ fn refused(call: &str) -> String {
         "get" | "first" | "next" => " 0 0 0 0".into(),
         "count" => " 0".into(),
         "empty" => " no".into(),
-        "root" | "rebuild" | "hash" => format!(" {}", "00".repeat(32)),
-        "full" | "keys" | "witness" | "krange" | "vrange" | "prefix" => " 0 - 0".into(),
+        "ask" => " refused 0 0".into(),
+        "root" | "rebuild" | "hash" | "end" => format!(" {}", "00".repeat(32)),
+        "full" | "keys" | "witness" | "krange" | "vrange" | "prefix" | "merge" => " 0 - 0".into(),
         _ => String::new(),
     }
 }
@@ -105,7 +108,7 @@ impl Held {
                     sum = answer.clone();
                     refused = false;
                 }
-                "load" | "buffer" | "poke" | "room" | "store" => refused = false,
+                "load" | "buffer" | "poke" | "room" | "begin" | "store" => refused = false,
                 _ => refused = self.call(name, &text, answer).is_some_and(|n| n != 0),
             }
         }
@@ -119,7 +122,7 @@ impl Held {
             let each: Vec<String> = numbers(call).iter().map(|n| format!("{n}: {}", count(call, *n))).collect();
             println!("  {call:8} {}", each.join("  "));
         }
-        for n in 0..=10 {
+        for n in 0..=15 {
             println!("  number {n}: {}", CALLS.iter().map(|call| count(call, n)).sum::<usize>());
         }
         println!("{} refused calls and lines that are none ({}), after which the store's sum was unchanged", self.unchanged, self.none);

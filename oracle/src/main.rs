@@ -7,21 +7,24 @@
 //!     oracle cases trees           writes crates/cases/proofs/Trees.antt
 //!     oracle cases witnesses       writes crates/cases/proofs/Witnesses.antt
 //!
-//! rb_tree/mod.rs is the customer's file, unchanged; `hash_tree` is a stand-in written from the Interface Specification.
+//! rb_tree/mod.rs and nested_rb_tree.rs are the customer's files, unchanged; `hash_tree` is a stand-in written from the Interface Specification.
 mod calls;
 mod cases;
 mod fuzz;
 mod fuzzed;
 mod hash_tree;
 mod lies;
+mod nested;
 #[allow(dead_code)]
 #[path = "rust_map.rs"]
 mod rb_tree;
+mod readings;
 mod script;
 mod sha256;
 mod store;
 
-use hash_tree::{empty, labeled, leaf, pruned, HashTree, HashTreeNode};
+use hash_tree::{empty, fork, labeled, leaf, pruned, Hash, HashTree, HashTreeNode};
+use rb_tree::{AsHashTree, RbTree};
 use std::io::{BufRead, BufWriter, Write};
 
 fn main() {

@@ -1,6 +1,7 @@
 //! Random scripts for `calls`: histories on stores of many capacities, with keys that share fronts, lie side by side or are
-//! extreme, refused calls among them, every witness call at present, absent and extreme bounds, and damaged stores.
-use crate::calls::hex;
+//! extreme, refused calls among them, every witness call at present, absent and extreme bounds, and damaged stores; and the witnesses
+//! that come out asked, merged and rebuilt in parts, as they are and damaged.
+use crate::calls::{hex, unhex, Calls};
 
 pub struct Random(u64);
 
@@ -95,10 +96,63 @@ fn query(r: &mut Random, keys: &mut Keys) -> String {
     }
 }
 
+/// Lines about witnesses that were made before: each asked for a key, merged with another, cut into parts; some of them damaged.
+fn readings(r: &mut Random, keys: &mut Keys, seen: &[Vec<u8>]) -> Vec<String> {
+    let mut witness = seen[r.below(seen.len())].clone();
+    match r.below(12) {
+        0 => {
+            let at = r.below(witness.len());
+            witness[at] ^= 1 << r.below(8);
+        }
+        1 => witness.truncate(r.below(witness.len() + 1)),
+        2 => witness.push(r.below(256) as u8),
+        3 => {
+            let labels = 60 + r.below(6);
+            witness = [[0x40, 0x00].repeat(labels), witness].concat();
+        }
+        _ => (),
+    }
+    match r.below(4) {
+        0 => {
+            let other = &seen[r.below(seen.len())];
+            vec![format!("merge {} {}", hex(&witness), hex(other))]
+        }
+        1 => {
+            let mut lines = vec!["begin".to_string()];
+            let step = [1, 2, 33, 64, 1000][r.below(5)].max(witness.len() / 12);
+            let mut left = &witness[..];
+            while !left.is_empty() {
+                let n = (1 + r.below(step)).min(left.len());
+                lines.push(format!("part {}", hex(&left[..n])));
+                left = &left[n..];
+                if r.chance(9) {
+                    lines.push(["part -", "end"][r.below(2)].into());
+                }
+            }
+            lines.push("end".into());
+            lines.push(format!("rebuild {}", hex(&witness)));
+            lines
+        }
+        _ => (0..1 + r.below(3)).map(|_| format!("ask {} {}", hex(&witness), hex(&keys.any(r)))).collect(),
+    }
+}
+
+/// The bytes of a witness that a line's answer has, if they are not many.
+fn shown(answer: &str) -> Option<Vec<u8>> {
+    let words: Vec<&str> = answer.split(' ').collect();
+    match words[..] {
+        ["0", _, bytes, "0"] if bytes.len() <= 6_000 => unhex(bytes).filter(|b| !b.is_empty()),
+        _ => None,
+    }
+}
+
 /// A script of about so many lines.
 pub fn script(seed: u64, lines: usize) -> Vec<String> {
     let mut r = Random::new(seed);
     let mut out: Vec<String> = vec![];
+    let mut made = Calls::new();
+    let mut told = 0;
+    let mut seen: Vec<Vec<u8>> = vec![vec![0, 0]];
     while out.len() < lines {
         let capacity = match r.below(12) {
             0 => 1,
@@ -143,6 +197,20 @@ pub fn script(seed: u64, lines: usize) -> Vec<String> {
                 let q = query(&mut r, &mut keys);
                 if capacity <= 200 || !(q == "keys" || q == "full") || r.chance(20) {
                     out.push(q);
+                    if capacity <= 40 {
+                        let mut answer = String::new();
+                        for line in &out[told..] {
+                            answer = made.answer(line.as_bytes());
+                        }
+                        told = out.len();
+                        if let Some(witness) = shown(&answer) {
+                            if seen.len() == 6 {
+                                seen.remove(0);
+                            }
+                            seen.push(witness);
+                            out.extend(readings(&mut r, &mut keys, &seen));
+                        }
+                    }
                 }
             }
         }

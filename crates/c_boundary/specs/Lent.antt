@@ -7,7 +7,11 @@ use Prim.Native.Nat.{ℕ}
 use lib.Dec.{eqb}
 use Rattle.sha256.specs.declared.Hashed.{Hashed}
 use Rattle.hash_tree.specs.declared.Rebuilt.{Rebuilt}
+use Rattle.lookup.specs.declared.Looked.{Looked}
+use Rattle.lookup.specs.declared.Looked.the-variants as looked
+use Rattle.lookup.specs.declared.LookedUp.{LookedUp}
 use Rattle.store.specs.Answers as answers
+use Rattle.c_boundary.specs.declared.Seen.{Seen}
 
 -- a lent thing at the end of a call
 abbrev pub lent : {A : Type 0} → (number : ℕ) → (answer before : A) → A
@@ -49,6 +53,27 @@ foundTo k i v j a =
 -- the output's bytes stay by the call itself
 unfoldable pub writtenTo : ℕ → answers.Written → answers.Written
 writtenTo size a = writtenIs (a .number) (lent (a .number) (a .size) size) (a .output)
+
+-- ---- what a witness says of a key: 1 found, 2 absent, 3 not to be told; where the child lies, 0 and 0 unless found
+
+abbrev pub seenOf : Looked → Seen
+seenOf (looked.Found a l) = record { result = 1; at = a; length = l }
+seenOf looked.Absent = record { result = 2; at = 0; length = 0 }
+seenOf looked.Unknown = record { result = 3; at = 0; length = 0 }
+seenOf looked.Nothing = record { result = 0; at = 0; length = 0 }
+
+pub record Asked : Type 0 where
+  pub number : ℕ
+  pub seen : Seen
+
+abbrev pub asked : (number : ℕ) → Seen → Asked
+asked n seen = record { number = n; seen = seen }
+
+abbrev pub askedIs : (number result at length : ℕ) → Asked
+askedIs n r a l = asked n (record { result = r; at = a; length = l })
+
+unfoldable pub askedTo : (result at length : ℕ) → LookedUp → Asked
+askedTo r a l x = asked (x .number) (lent (x .number) (seenOf (x .looked)) (record { result = r; at = a; length = l }))
 
 -- ---- the answers of the two calls without a store, field by field
 

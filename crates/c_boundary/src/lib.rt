@@ -2,17 +2,23 @@
 // and a refusal leaves this as it was. A slice is a pointer and a length.
 use answers::Counted;
 use answers::Found;
+use answers::Saved;
 use answers::Told;
-use witness::Saved;
+use lookup::Looked;
+use lookup::LookedUp;
+use parts::STATE;
 ghost use mathlib.Core.Path.{_≡_};
 ghost use mathlib.Core.List.{List};
 ghost use Prim.Native.Nat.{ℕ};
 ghost use Rattle.sha256.specs.Hashed.{hashed};
 ghost use Rattle.hash_tree.specs.Whole.{rebuilt};
 ghost use Rattle.store.specs.Calls.{createAnswer, isEmptyAnswer, countAnswer, rootHashAnswer, getAnswer, firstEntryAnswer, nextEntryAnswer, insertAnswer, modifyAnswer, deleteAnswer, asHashTreeAnswer, keysAnswer, witnessAnswer, keyRangeAnswer, valueRangeAnswer, keysWithPrefixAnswer};
-ghost use Rattle.answers.specs.Answers.{changedOf};
-ghost use Rattle.witness.specs.Saving.{answered};
-ghost use Rattle.c_boundary.specs.Lent.{toldIs, toldTo, countedIs, countedTo, digestedIs, digestedTo, foundIs, foundTo, writtenIs, writtenTo, rebuiltOf, hashedOf};
+ghost use Rattle.answers.specs.Answers.{answered, changedOf};
+ghost use Rattle.lookup.specs.Answer.{lookupAnswer};
+ghost use Rattle.merge.specs.Answer.{mergeAnswer};
+ghost use Rattle.parts.specs.Machine.{ended, partNumber};
+ghost use Rattle.parts.specs.Layout.{begun, run, partsOf};
+ghost use Rattle.c_boundary.specs.Lent.{toldIs, toldTo, countedIs, countedTo, digestedIs, digestedTo, foundIs, foundTo, writtenIs, writtenTo, seenOf, askedIs, askedTo, rebuiltOf, hashedOf};
 
 // ---- what is lent for an answer: filled if the number is 0
 
@@ -69,6 +75,62 @@ fn put_length(saved: Saved, length: &mut usize) -> usize
         *length = saved.size;
     }
     saved.number
+}
+
+const FOUND: usize = 1;
+
+const ABSENT: usize = 2;
+
+const UNKNOWN: usize = 3;
+
+// What a witness says of a key, in numbers.
+pub struct Seen {
+    pub result: usize,
+    pub at: usize,
+    pub length: usize,
+}
+
+fn result_alone(result: usize) -> Seen
+    ensures { λ r. ⌜ r ≡ record { result = result; at = 0; length = 0 } ⌝ }
+{
+    Seen {
+        result,
+        at: 0,
+        length: 0,
+    }
+}
+
+fn seen_of(looked: Looked) -> Seen
+    ensures { λ r. ⌜ r ≡ seenOf looked ⌝ }
+{
+    match looked {
+        Looked::Found { at, length } => Seen {
+            result: FOUND,
+            at,
+            length,
+        },
+        Looked::Absent => result_alone(ABSENT),
+        Looked::Unknown => result_alone(UNKNOWN),
+        Looked::Nothing => result_alone(0),
+    }
+}
+
+fn put_seen(
+    up: LookedUp,
+    result: &mut usize,
+    child_at: &mut usize,
+    child_length: &mut usize,
+) -> usize
+    ensures { λ r. ⌜ askedIs r (now (result .exit)) (now («child_at» .exit)) (now («child_length» .exit)) ≡ askedTo (now (result .entry)) (now («child_at» .entry)) (now («child_length» .entry)) up ⌝ }
+{
+    let looked = up.looked;
+    let x = seen_of(looked);
+    if up.number == 0 {
+        *result = x.result;
+        *child_at = x.at;
+        *child_length = x.length;
+    }
+    up.number
 }
 
 // ---- a store as a whole
@@ -247,6 +309,62 @@ pub extern "C" fn dampcandle_rebuild(witness: &[u8], digest: &mut [u8; 32]) -> u
     let rebuilt = register_map::rebuild(witness);
     let answer = rebuilt.digest;
     put_digest(rebuilt.number, answer, digest)
+}
+
+// What the witness says of the key. It hashes nothing: rebuild first, and compare the digest.
+#[no_mangle]
+pub extern "C" fn dampcandle_lookup(
+    witness: &[u8],
+    key: &[u8],
+    result: &mut usize,
+    child_at: &mut usize,
+    child_length: &mut usize,
+) -> usize
+    ensures { λ r. ⌜ askedIs r (now (result .exit)) (now («child_at» .exit)) (now («child_length» .exit)) ≡ askedTo (now (result .entry)) (now («child_at» .entry)) (now («child_length» .entry)) (lookupAnswer (now (key .entry)) (now (witness .entry))) ⌝ }
+{
+    put_seen(
+        register_map::lookup(witness, key),
+        result,
+        child_at,
+        child_length,
+    )
+}
+
+#[no_mangle]
+pub extern "C" fn dampcandle_merge(
+    one: &[u8],
+    other: &[u8],
+    out: &mut [u8],
+    length: &mut usize,
+) -> usize
+    ensures { λ r. ⌜ writtenIs r (now (length .exit)) (now (out .exit)) ≡ writtenTo (now (length .entry)) (mergeAnswer (now (one .entry)) (now (other .entry)) (now (out .entry))) ⌝ }
+{
+    put_length(register_map::merge(one, other, out), length)
+}
+
+// ---- rebuild in parts
+
+#[no_mangle]
+pub extern "C" fn dampcandle_rebuild_begin(state: &mut [u8; STATE])
+    ensures { λ _. ⌜ now (state .exit) ≡ begun (now (state .entry)) ⌝ }
+{
+    register_map::rebuild_begin(state);
+}
+
+#[no_mangle]
+pub extern "C" fn dampcandle_rebuild_part(state: &mut [u8; STATE], bytes: &[u8]) -> usize
+    ensures { λ r. ⌜ (now (state .exit) ≡ run (now (state .entry)) (now (bytes .entry))) × (r ≡ partNumber (partsOf (now (state .exit)))) ⌝ }
+{
+    register_map::rebuild_part(state, bytes)
+}
+
+#[no_mangle]
+pub extern "C" fn dampcandle_rebuild_end(state: &[u8; STATE], digest: &mut [u8; 32]) -> usize
+    ensures { λ r. ⌜ digestedIs r (now (digest .exit)) ≡ digestedTo (now (digest .entry)) (rebuiltOf (ended (partsOf (now (state .entry))))) ⌝ }
+{
+    let end = register_map::rebuild_end(state);
+    let answer = end.digest;
+    put_digest(end.number, answer, digest)
 }
 
 #[no_mangle]

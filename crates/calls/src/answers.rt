@@ -1,23 +1,27 @@
 // The calls that lines ask for, made on the driver's store and output.
+use crate::asked::Asked;
 use crate::asked::Span;
 use crate::asked::asked_by;
 use crate::input::read_line;
 use crate::names::Ask;
 use crate::names::Call;
 use crate::names::Change;
+use crate::names::Feed;
 use crate::names::Setup;
 use crate::names::Show;
 use crate::reply::say_bytes;
 use crate::reply::say_count;
 use crate::reply::say_digest;
 use crate::reply::say_found;
+use crate::reply::say_looked;
 use crate::reply::say_number;
 use crate::reply::say_ok;
 use crate::reply::say_unknown;
 use crate::reply::say_whether;
 use crate::reply::say_witness;
+use answers::Saved;
+use parts::STATE;
 use text::words::within;
-use witness::Saved;
 
 // How many bytes of the store and of the output are in use.
 struct Sizes {
@@ -134,6 +138,12 @@ fn rebuild(witness: &[u8]) {
     say_digest(r.number, d);
 }
 
+fn ended(state: &[u8; STATE]) {
+    let r = register_map::rebuild_end(state);
+    let d = r.digest;
+    say_digest(r.number, d);
+}
+
 fn hash(message: &[u8]) {
     let r = register_map::hash(message);
     let d = r.digest;
@@ -150,7 +160,7 @@ fn empty(store: &[u8]) {
     say_whether(r.number, r.yes);
 }
 
-fn ask(which: Ask, bytes: &[u8], store: &[u8]) {
+fn ask(which: Ask, bytes: &[u8], key: &[u8], store: &[u8]) {
     match which {
         Ask::Get => say_found(register_map::get(store, bytes)),
         Ask::First => say_found(register_map::first_entry(store)),
@@ -159,6 +169,7 @@ fn ask(which: Ask, bytes: &[u8], store: &[u8]) {
         Ask::Empty => empty(store),
         Ask::Root => root(store),
         Ask::Rebuild => rebuild(bytes),
+        Ask::Lookup => say_looked(register_map::lookup(bytes, key)),
         Ask::Hash => hash(bytes),
         Ask::Store => say_bytes(store),
         Ask::Sum => say_bytes(&sha256::digest(store)),
@@ -173,6 +184,7 @@ fn witness(which: Show, a: &[u8], b: &[u8], store: &[u8], output: &mut [u8]) -> 
         Show::KeyRange => register_map::key_range(store, a, b, output),
         Show::ValueRange => register_map::value_range(store, a, b, output),
         Show::Prefix => register_map::keys_with_prefix(store, a, output),
+        Show::Merge => register_map::merge(a, b, output),
     }
 }
 
@@ -214,16 +226,37 @@ fn part(line: &[u8], at: Span) -> &[u8] {
 fn perform(call: Call, number: u64, a: &[u8], b: &[u8], store: &mut [u8], output: &mut [u8]) {
     match call {
         Call::Change(which) => say_number(change(which, number, a, b, store)),
-        Call::Ask(which) => ask(which, a, store),
+        Call::Ask(which) => ask(which, a, b, store),
         Call::Show(which) => show(which, a, b, store, output),
-        _ => say_unknown(),
+        Call::Unknown => say_unknown(),
+        _ => return,
     }
 }
 
-// Answers a line of `n` bytes.
-fn answer(line: &mut [u8], n: usize, store: &mut [u8], output: &mut [u8], sizes: Sizes) -> Sizes {
+// What the first `n` bytes of a line ask for.
+fn read(line: &mut [u8], n: usize) -> Asked {
     let end = within(n, line);
-    let x = asked_by(&mut line[..end]);
+    asked_by(&mut line[..end])
+}
+
+// A line about the rebuild in parts; any other is left to `answer`.
+fn feed(x: Asked, line: &[u8], state: &mut [u8; STATE]) {
+    let call = x.call;
+    let Call::Feed(which) = call else {
+        return;
+    };
+    match which {
+        Feed::Begin => {
+            register_map::rebuild_begin(state);
+            say_ok();
+        }
+        Feed::Part => say_number(register_map::rebuild_part(state, part(line, x.a))),
+        Feed::End => ended(state),
+    }
+}
+
+// Answers any other line.
+fn answer(x: Asked, line: &[u8], store: &mut [u8], output: &mut [u8], sizes: Sizes) -> Sizes {
     let call = x.call;
     let a = part(line, x.a);
     if let Call::Setup(which) = call {
@@ -237,7 +270,14 @@ fn answer(line: &mut [u8], n: usize, store: &mut [u8], output: &mut [u8], sizes:
 }
 
 // A loop has to end, and nothing says that the input does: it counts its turns down, from a number that no run uses up.
-pub(crate) fn run(chunk: &mut [u8], line: &mut [u8], store: &mut [u8], output: &mut [u8]) {
+pub(crate) fn run(
+    chunk: &mut [u8],
+    line: &mut [u8],
+    store: &mut [u8],
+    output: &mut [u8],
+    state: &mut [u8; STATE],
+) {
+    register_map::rebuild_begin(state);
     let mut turns = u64::MAX;
     let mut at = 0;
     let mut end = 0;
@@ -253,6 +293,8 @@ pub(crate) fn run(chunk: &mut [u8], line: &mut [u8], store: &mut [u8], output: &
         }
         at = got.at;
         end = got.end;
-        sizes = answer(line, got.len, store, output, sizes);
+        let asked = read(line, got.len);
+        feed(asked, line, state);
+        sizes = answer(asked, line, store, output, sizes);
     }
 }

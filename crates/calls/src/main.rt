@@ -3,7 +3,8 @@
 // begins with the number of document 01. `?` answers a line that it does not know, bad hex, or a number that does not fit.
 //
 // Landed: every line of the base: buffer, load, poke, room, create, insert, modify, delete, get, first, next, count, empty, root,
-// full, keys, witness, krange, vrange, prefix, rebuild, hash, store, sum. None of the later requests.
+// full, keys, witness, krange, vrange, prefix, rebuild, hash, store, sum; of the later requests ask (Q-1), merge (Q-14), and begin, part,
+// end (Q-8).
 mod answers;
 mod asked;
 mod input;
@@ -16,5 +17,6 @@ fn main() {
     let mut line = [0u8; 320_000];
     let mut store = [0u8; 153_608];
     let mut output = [0u8; 131_072];
-    answers::run(&mut chunk, &mut line, &mut store, &mut output);
+    let mut state = [0u8; parts::STATE];
+    answers::run(&mut chunk, &mut line, &mut store, &mut output, &mut state);
 }

@@ -17,6 +17,13 @@ pub(crate) enum Change {
     Delete,
 }
 
+// A rebuild in parts.
+pub(crate) enum Feed {
+    Begin,
+    Part,
+    End,
+}
+
 // Reads the store, or no store at all.
 pub(crate) enum Ask {
     Get,
@@ -26,12 +33,13 @@ pub(crate) enum Ask {
     Empty,
     Root,
     Rebuild,
+    Lookup,
     Hash,
     Store,
     Sum,
 }
 
-// Reads the store and writes a witness.
+// Writes into the output: a witness of the store, or of two witnesses.
 pub(crate) enum Show {
     Full,
     Keys,
@@ -39,6 +47,7 @@ pub(crate) enum Show {
     KeyRange,
     ValueRange,
     Prefix,
+    Merge,
 }
 
 pub(crate) enum Call {
@@ -46,12 +55,16 @@ pub(crate) enum Call {
     Change(Change),
     Ask(Ask),
     Show(Show),
+    Feed(Feed),
     Unknown,
 }
 
 // A line of this word alone.
 fn alone(name: &[u8]) -> Call {
-    match place(name, b"first count empty root store sum full keys") {
+    match place(
+        name,
+        b"first count empty root store sum full keys begin end",
+    ) {
         0 => Call::Ask(Ask::First),
         1 => Call::Ask(Ask::Count),
         2 => Call::Ask(Ask::Empty),
@@ -60,6 +73,8 @@ fn alone(name: &[u8]) -> Call {
         5 => Call::Ask(Ask::Sum),
         6 => Call::Show(Show::Full),
         7 => Call::Show(Show::Keys),
+        8 => Call::Feed(Feed::Begin),
+        9 => Call::Feed(Feed::End),
         _ => Call::Unknown,
     }
 }
@@ -68,7 +83,7 @@ fn alone(name: &[u8]) -> Call {
 fn with_one(name: &[u8]) -> Call {
     match place(
         name,
-        b"buffer room load create delete get next rebuild hash witness prefix",
+        b"buffer room load create delete get next rebuild hash witness prefix part",
     ) {
         0 => Call::Setup(Setup::Buffer),
         1 => Call::Setup(Setup::Room),
@@ -81,18 +96,21 @@ fn with_one(name: &[u8]) -> Call {
         8 => Call::Ask(Ask::Hash),
         9 => Call::Show(Show::Witness),
         10 => Call::Show(Show::Prefix),
+        11 => Call::Feed(Feed::Part),
         _ => Call::Unknown,
     }
 }
 
 // This word and two more.
 fn with_two(name: &[u8]) -> Call {
-    match place(name, b"poke insert modify krange vrange") {
+    match place(name, b"poke insert modify krange vrange ask merge") {
         0 => Call::Setup(Setup::Poke),
         1 => Call::Change(Change::Insert),
         2 => Call::Change(Change::Modify),
         3 => Call::Show(Show::KeyRange),
         4 => Call::Show(Show::ValueRange),
+        5 => Call::Ask(Ask::Lookup),
+        6 => Call::Show(Show::Merge),
         _ => Call::Unknown,
     }
 }

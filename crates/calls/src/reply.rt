@@ -1,10 +1,12 @@
 // Lines of answer, on standard output.
 use answers::Found;
+use answers::Saved;
 use libc::STDOUT_FILENO;
+use lookup::Looked;
+use lookup::LookedUp;
 use text::print::say;
 use text::print::say_hex;
 use text::words::within;
-use witness::Saved;
 
 // ---- parts of a line
 
@@ -68,6 +70,23 @@ pub(crate) fn say_found(f: Found) {
     next(f.value_at);
     next(f.value_length);
     end();
+}
+
+// What a witness says of a key, and where the child of its label lies.
+pub(crate) fn say_looked(r: LookedUp) {
+    number(r.number);
+    let looked = r.looked;
+    match looked {
+        Looked::Found { at, length } => {
+            put(b" found");
+            next(at);
+            next(length);
+            end();
+        }
+        Looked::Absent => put(b" absent 0 0\n"),
+        Looked::Unknown => put(b" unknown 0 0\n"),
+        Looked::Nothing => put(b" refused 0 0\n"),
+    }
 }
 
 pub(crate) fn say_bytes(s: &[u8]) {

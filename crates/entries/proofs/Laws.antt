@@ -8,7 +8,7 @@ use lib.ListN.{length}
 use borrow.Author.Tests.{eq-eqb, ne-eqb}
 use Rattle.sha256.proofs.Length.{sha256-bytes}
 use Rattle.hash_tree.specs.HashTree.{Digest, forkHash, labeledHash, leafHash}
-use Rattle.hash_tree.specs.DigestLaws.{forkHash-length, labeledHash-length}
+use Rattle.hash_tree.proofs.DigestLaws.{forkHash-length, labeledHash-length}
 use Rattle.slots.specs.Bits.{Bytes}
 use Rattle.slots.specs.Layout.{slot, keyOf, valueOf, digestOf}
 use Rattle.llrb.specs.Tree.{Entry, Tree, nil, node}

@@ -16,9 +16,9 @@ use Rattle.store.specs.Decide.{onSound}
 use Rattle.store.specs.Answers.{written, fitting}
 use Rattle.store.specs.Calls.{reversed, ofKey, ofRange, witnessed}
 use Rattle.store.proofs.Decoding.{on-sound}
-use Rattle.witness.specs.declared.Saved.{Saved}
+use Rattle.answers.specs.declared.Saved.{Saved}
 use Rattle.witness.specs.Saving.{answered}
-use Rattle.register_map.specs.Answers.{unwritten}
+use Rattle.answers.specs.Answers.{unwritten}
 use Rattle.register_map.proofs.Refusing.{not-sound}
 
 module _ (s out : List ℕ) where

@@ -1,11 +1,10 @@
--- What the public calls make of the answers of rb_tree and witness: the number of each.
+-- The number of each answer of rb_tree.
 use Prim.Native.Nat.{ℕ}
 use Rattle.store.specs.Numbers.{Full, Absent, numberOf}
 use Rattle.rb_tree.specs.declared.Inserted.{Inserted}
 use Rattle.rb_tree.specs.declared.Inserted.the-variants as insert
 use Rattle.rb_tree.specs.declared.Changed.{Changed}
 use Rattle.rb_tree.specs.declared.Changed.the-variants as change
-use Rattle.witness.specs.declared.Saved.{Saved}
 
 abbrev pub insertedNumber : Inserted → ℕ
 insertedNumber insert.Done = 0
@@ -14,7 +13,3 @@ insertedNumber insert.Full = numberOf Full
 abbrev pub changedNumber : Changed → ℕ
 changedNumber change.Done = 0
 changedNumber change.Absent = numberOf Absent
-
--- a witness that is refused
-abbrev pub unwritten : (number : ℕ) → Saved
-unwritten n = record { number = n; size = 0 }

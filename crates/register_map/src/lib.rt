@@ -11,23 +11,28 @@ use answers::MAX_KEY;
 use answers::MAX_VALUE;
 use answers::NOT_SOUND;
 use answers::REVERSED;
+use answers::Saved;
 use answers::Told;
 use hash_tree::Rebuilt;
 use judge::judge;
 use key_order::below;
+use lookup::LookedUp;
+use parts::STATE;
 use rb_tree::Changed;
 use rb_tree::Inserted;
 use search::Place;
 use sha256::Hashed;
-use witness::Saved;
 ghost use mathlib.Core.Path.{_≡_};
 ghost use Rattle.sha256.specs.Hashed.{hashed};
 ghost use Rattle.hash_tree.specs.Whole.{rebuilt};
 ghost use Rattle.store.specs.Calls.{createAnswer, isEmptyAnswer, countAnswer, rootHashAnswer, getAnswer, firstEntryAnswer, nextEntryAnswer, insertAnswer, modifyAnswer, deleteAnswer, asHashTreeAnswer, keysAnswer, witnessAnswer, keyRangeAnswer, valueRangeAnswer, keysWithPrefixAnswer};
-ghost use Rattle.answers.specs.Answers.{noEntry, changedOf};
+ghost use Rattle.answers.specs.Answers.{noEntry, unwritten, answered, changedOf};
 ghost use Rattle.search.specs.Search.{answerOf};
-ghost use Rattle.witness.specs.Saving.{answered};
-ghost use Rattle.register_map.specs.Answers.{insertedNumber, changedNumber, unwritten};
+ghost use Rattle.lookup.specs.Answer.{lookupAnswer};
+ghost use Rattle.merge.specs.Answer.{mergeAnswer};
+ghost use Rattle.parts.specs.Machine.{ended, partNumber};
+ghost use Rattle.parts.specs.Layout.{begun, run, partsOf};
+ghost use Rattle.register_map.specs.Answers.{insertedNumber, changedNumber};
 
 // ---- a store as a whole
 
@@ -305,6 +310,43 @@ pub fn rebuild(witness: &[u8]) -> Rebuilt
     ensures { λ r. ⌜ r ≡ rebuilt (now (witness .entry)) ⌝ }
 {
     hash_tree::rebuild(witness)
+}
+
+// The Interface Specification's lookup of a key in a witness. It hashes nothing: an answer is worth something only after the witness
+// was rebuilt and its digest compared.
+pub fn lookup(witness: &[u8], key: &[u8]) -> LookedUp
+    ensures { λ r. ⌜ r ≡ lookupAnswer (now (key .entry)) (now (witness .entry)) ⌝ }
+{
+    lookup::lookup(witness, key)
+}
+
+// Two witnesses of one release in one, at the front of the output.
+pub fn merge(one: &[u8], other: &[u8], out: &mut [u8]) -> Saved
+    ensures { λ r. ⌜ answered r (now (out .exit)) ≡ mergeAnswer (now (one .entry)) (now (other .entry)) (now (out .entry)) ⌝ }
+{
+    merge::merge(one, other, out)
+}
+
+// ---- rebuild in parts: a state of plain bytes, which means nothing before it is begun
+
+pub fn rebuild_begin(state: &mut [u8; STATE])
+    ensures { λ _. ⌜ now (state .exit) ≡ begun (now (state .entry)) ⌝ }
+{
+    parts::rebuild_begin(state);
+}
+
+// The next bytes of the witness: 9 once it is certain that no witness begins so, else 0.
+pub fn rebuild_part(state: &mut [u8; STATE], bytes: &[u8]) -> usize
+    ensures { λ r. ⌜ (now (state .exit) ≡ run (now (state .entry)) (now (bytes .entry))) × (r ≡ partNumber (partsOf (now (state .exit)))) ⌝ }
+{
+    parts::rebuild_part(state, bytes)
+}
+
+// What rebuild answers for all the bytes so far; it changes nothing, and parts may follow.
+pub fn rebuild_end(state: &[u8; STATE]) -> Rebuilt
+    ensures { λ r. ⌜ r ≡ ended (partsOf (now (state .entry))) ⌝ }
+{
+    parts::rebuild_end(state)
 }
 
 // The SHA-256 of a message.

@@ -5,6 +5,7 @@ use crate::says::DONE;
 use crate::says::OUT;
 use crate::says::REFUSED;
 use crate::says::refuse;
+use answers::Saved;
 use text::hex;
 use text::print::say;
 use text::print::say_number;
@@ -14,7 +15,6 @@ use text::words::has;
 use text::words::is;
 use text::words::part;
 use text::words::word;
-use witness::Saved;
 
 // ---- cutting
 

@@ -187,7 +187,7 @@ module _ (k : Key) (v : Value) {m : Model} (e : Entry) (g : Lawful m) (h : get k
 
 -- ---- the value already there
 
-same-tree : (k : Key) (e : Entry) (t : Tree) → get k t ≡ some e → modify k (e .value) t ≡ t
+pub same-tree : (k : Key) (e : Entry) (t : Tree) → get k t ≡ some e → modify k (e .value) t ≡ t
 unfolding get modify
 same-tree k e nil h = refl
 same-tree k e (node c x l r) h = at (cmp k (x .key)) h (same-tree k e l) (same-tree k e r)

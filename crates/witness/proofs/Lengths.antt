@@ -1,4 +1,4 @@
--- The bytes of an entry, piece by piece, and their lengths. Assumes nothing.
+-- The bytes of an entry, piece by piece, and their lengths.
 use Prim.Native.Nat.{ℕ, _+_, _≤_}
 use mathlib.Core.Path.{_≡_, refl, sym}
 use mathlib.Core.Bool.{Bool, true, false, cond}
@@ -7,14 +7,14 @@ use native.Mathlib.Omega.{arith}
 use lib.ListN.{length, length-take}
 use Rattle.hash_tree.specs.HashTree.{forkHash, leafHash}
 use Rattle.hash_tree.specs.Written.{piece, write}
-use Rattle.hash_tree.specs.ParseLaws.{length-piece, length-write}
-use Rattle.hash_tree.specs.DigestLaws.{forkHash-length, labeledHash-length, leafHash-length}
+use Rattle.hash_tree.proofs.ParseLaws.{length-piece, length-write}
+use Rattle.hash_tree.proofs.DigestLaws.{forkHash-length, labeledHash-length, leafHash-length}
 use Rattle.llrb.specs.Digests.{dataDigest}
 use Rattle.slots.specs.Layout.{HasSlot, slot, digestOf, keyOf, valueOf}
 use Rattle.slots.proofs.Lenses.{digest-length}
 use Rattle.witness_trees.specs.Shown.{item}
 use Rattle.witness_walks.specs.declared.What.the-variants.{Hide, Label, Show}
-use Rattle.witness_walks.specs.declared.Middle.the-variants.{Both, Whole}
+use Rattle.witness_walks.specs.declared.Middle.the-variants.{Both}
 use Rattle.search.specs.Search.{EntryAt}
 use Rattle.witness_walks.specs.Walked.{whatOf}
 use Rattle.witness_walks.specs.InStore.{entryIn, shownIn, middleIn}
@@ -56,10 +56,7 @@ module _ (s : List ℕ) (n : ℕ) where
   pub both-length : 34 ≡ length (middleIn s n Both)
   both-length = omega (arith, length-piece 4 (forkHash (dataDigest (entryIn s n)) (digestOf s (slot s n .right))), both-digest)
 
-  pub whole-length : HasSlot (length s) n → 34 ≡ length (middleIn s n Whole)
-  whole-length h = omega (arith, length-piece 4 (digestOf s n), digest-length s n h)
-
 -- Empty, or Pruned to a stored digest
 pub hidden-length : (s : List ℕ) (n : ℕ) → (b : Bool) → (b ≡ false → HasSlot (length s) n) → cond b 2 34 ≡ length (cond b (piece 0 []) (piece 4 (digestOf s n)))
 hidden-length s n true h = sym (length-piece 0 [])
-hidden-length s n false h = whole-length s n (h refl)
+hidden-length s n false h = omega (arith, length-piece 4 (digestOf s n), digest-length s n (h refl))

@@ -1,15 +1,13 @@
--- From the bytes that were put to what the calls answer on a sound store. Assumes nothing.
+-- From the bytes that were put to what the calls answer on a sound store.
 use Prim.Native.Nat.{ℕ, _+_, _≤_, _<_}
 use mathlib.Core.Path.{_≡_, refl, sym, ap, subst, _∙_}
-use mathlib.Core.Logic.{inl}
 use mathlib.Core.Bool.{false, true≢false}
 use mathlib.Core.List.{List, _++_}
 use mathlib.Core.Option.{Option, none, some}
 use native.Mathlib.Omega.{arith}
-use native.Mathlib.Nat.{zero-add}
 use borrow.Author.Tests.{le-ltb, lt-ltb}
-use lib.ListN.{length, drop}
-use lib.Seq.{sets-eq}
+use lib.ListN.{length}
+use Rattle.output.proofs.Putting.{puts-front}
 use Rattle.key_order.specs.declared.Ordering.{Ordering}
 use Rattle.key_order.specs.declared.Ordering.the-variants.{Less, Equal, Greater}
 use Rattle.key_order.specs.Order.{Key, cmp, pick}
@@ -28,11 +26,11 @@ use Rattle.store.specs.Calls.{reversed, ofKey, ofRange, witnessed, asHashTreeAn
 use Rattle.store.proofs.Decoding.{on-sound}
 use Rattle.witness_trees.specs.Shown.{threeWayFork}
 use Rattle.witness_trees.specs.Witness.{Form, keysOnly, values, KeyBound, Exact, Neighbor, at, lowerBound, upperBound, rightPrefixNeighbor, lastArm, fullWitnessTree, rangeWitness, lookupAndBuildWitness, orTree, asHashTree, keys, keyRange, valueRange, keysWithPrefix, witness}
-use Rattle.witness_trees.specs.Rules.{Le}
+use Rattle.witness_trees.specs.Rules.{Le, InOrder}
 use Rattle.witness_trees.proofs.Bounds.{lower-is, upper-is, past-is}
 use Rattle.witness_trees.proofs.Lists.{mem-in, lt-irr}
 use Rattle.witness_trees.proofs.Walks.{look-none}
-use Rattle.witness_trees.proofs.Calls.{Present, InOrder, join-same, low-present, high-present, past-present, bounds-in-order, prefix-in-order}
+use Rattle.witness_trees.proofs.Calls.{Present, join-same, low-present, high-present, past-present, bounds-in-order, prefix-in-order}
 use Rattle.search.specs.Search.{Each, Stored, OfBound, EntryAt, Lies, foundSlot, boundSlot}
 use Rattle.search.specs.declared.Found.{Found}
 use Rattle.search.specs.declared.Found.the-variants as found
@@ -47,11 +45,12 @@ use Rattle.witness_walks.specs.declared.Part.the-variants.{Walked}
 use Rattle.witness_walks.specs.Walked.{showing}
 use Rattle.witness_walks.specs.InStore.{keyIn, BoundsIn}
 use Rattle.witness_walks.specs.Bounds.{walkBetween, rangeWalk}
-use Rattle.witness_walks.proofs.Reached.{Reached}
+use Rattle.witness_walks.proofs.Never.{range-reached}
 use Rattle.witness_walks.proofs.Writing.{part-bytes}
 use Rattle.witness_walks.proofs.Walking.{PlacedEnd, walk-full, walk-range, walk-lookup}
-use Rattle.witness.specs.declared.Saved.{Saved}
-use Rattle.witness.specs.Putting.{Puts, Laid, bytesBelow}
+use Rattle.answers.specs.declared.Saved.{Saved}
+use Rattle.output.specs.Putting.{Puts}
+use Rattle.witness.specs.Putting.{Laid, bytesBelow}
 use Rattle.witness.specs.Saving.{answered, putFront, CanSave, Saves, BoundIn, CanRange}
 
 -- ---- the front of the output
@@ -61,8 +60,8 @@ front-short o w h = rw (lt-ltb (length o) (length w) h)
 
 pub front-put : {o o′ : List ℕ} {k : ℕ} (w : List ℕ) → length w ≤ length o → Puts o o′ 0 k w → answered (record { number = 0; size = k }) o′ ≡ putFront o w
 front-put {o = o} w h p =
-    rw (le-ltb (length o) (length w) h)
-    (λ i. record { number = 0; size = (p .place ∙ zero-add (length w)) i; output = (p .bytes ∙ sets-eq w o 0 (omega arith) ∙ ap (λ n. w ++ drop n o) (zero-add (length w))) i })
+    let q = puts-front w h p in
+    rw (le-ltb (length o) (length w) h) (λ i. record { number = 0; size = q .0 i; output = q .1 i })
 
 -- ---- what get answers
 
@@ -132,15 +131,8 @@ module _ {s : List ℕ} {m : Model} (rep : Represents s m) where
     range-bytes : (w : Form) → bytesBelow s (showing w) (Walked (walkBetween (boundSlot lo) (boundSlot hi))) tree ≡ write (rangeWitness threeWayFork lastArm lo hi w tree)
     range-bytes w =
         rw (walk-same lo hi)
-        (part-bytes (keyIn s) w tree (Walked (rangeWalk lo hi)) (reached lo hi a b p q o) ∙ ap write (walk-range (keyIn s) w lo hi (placed lo a) (placed hi b) tree))
-      where
-        reached : (lo hi : Option KeyBound) → OfBound (Stored s) lo → OfBound (Stored s) hi → Present lo (entries tree) → Present hi (entries tree) → InOrder lo hi
-            → Reached (keyIn s) (rangeWalk lo hi) tree
-        reached none none a b p q o = tt
-        reached (some lo) none a b p q o = (ordered, inl (rw (placed (some lo) a) p))
-        reached none (some hi) a b p q o = (ordered, inl (rw (placed (some hi) b) q))
-        reached (some lo) (some hi) a b p q o =
-            (rw (placed (some lo) a, placed (some hi) b) o, ordered, inl (rw (placed (some lo) a) p), inl (rw (placed (some hi) b) q))
+        (part-bytes (keyIn s) w tree (Walked (rangeWalk lo hi)) (range-reached (keyIn s) tree ordered w lo hi (placed lo a) (placed hi b) p q o)
+        ∙ ap write (walk-range (keyIn s) w lo hi (placed lo a) (placed hi b) o tree))
 
   -- ---- each call's witness, by its bytes
 

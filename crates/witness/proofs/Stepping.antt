@@ -1,5 +1,4 @@
 -- A node of the tree that is written: what is known at it, its five runs of bytes, and that the entries below it grow fewer.
--- Assumes nothing.
 use Prim.Native.Nat.{ℕ, _+_, _≤_, _<_}
 use mathlib.Core.Path.{_≡_, refl, sym, ap, _∙_}
 use mathlib.Core.Bool.{Bool}
@@ -21,9 +20,8 @@ use Rattle.witness_walks.specs.declared.What.{What}
 use Rattle.witness_walks.specs.declared.Part.{Part}
 use Rattle.witness_walks.specs.declared.Part.the-variants.{Nothing, Hidden, Walked}
 use Rattle.witness_walks.specs.declared.Arm.{Arm}
-use Rattle.witness_walks.specs.declared.Arm.the-variants.{Fork, Pruned}
 use Rattle.witness_walks.specs.declared.Shape.{Shape}
-use Rattle.witness_walks.specs.declared.Shape.the-variants.{M, ForkLM, ForkMR, PrunedLMR, ForkLPrunedMR, ForkLForkMR}
+use Rattle.witness_walks.specs.declared.Shape.the-variants.{M, ForkLM, ForkMR, ForkLPrunedMR, ForkLForkMR}
 use Rattle.witness_walks.specs.declared.Records.{Records}
 use Rattle.witness_walks.specs.Arms.{slotOf, armsAt}
 use Rattle.witness_walks.specs.Records.{kindOfPart, kindOfWhat, shapeOf, recordsOf, recordsAt}
@@ -31,15 +29,15 @@ use Rattle.witness_walks.specs.Walked.{forkBytes, partBytes}
 use Rattle.witness_walks.specs.InStore.{keyIn, BoundsIn, PartIn, recordsIn, middleIn, MiddleAt, hiddenIn, HiddenAt}
 use Rattle.witness_walks.proofs.Laying.{records-held, middle-held, hidden-held}
 use Rattle.witness_trees.proofs.Lists.{arms}
-use Rattle.witness.specs.declared.Room.{Room}
-use Rattle.witness.specs.Putting.{Puts, roomAfter, Laid, bytesBelow}
-use Rattle.witness.proofs.Putting.{puts-then, puts-length, room-then}
+use Rattle.output.specs.declared.Room.{Room}
+use Rattle.output.specs.Putting.{Puts, roomAfter}
+use Rattle.witness.specs.Putting.{Laid, bytesBelow}
+use Rattle.output.proofs.Putting.{puts-then, puts-length, room-then}
 
 -- ---- the bounds go down with the walk
 
 abbrev ArmIn : List ℕ → Arm → Type 0
-ArmIn s (Fork l m r) = PartIn s l × PartIn s r
-ArmIn s Pruned = Unit {0}
+ArmIn s a = PartIn s (a .left) × PartIn s (a .right)
 
 arm-in : (s : List ℕ) (w : Walk) (f : What) (k : Key) → BoundsIn s w → ArmIn s (armsAt (keyIn s) w f k)
 arm-in s walk.Full f k b = (tt, tt)
@@ -49,20 +47,19 @@ arm-in s (walk.Between lo hi) f k b =
     arms (ArmIn s) (cmp (keyIn s (slotOf lo)) k)
     (λ p. arms (ArmIn s) (cmp k (keyIn s (slotOf hi))) (λ q. (b, b)) (λ q. (b, tt)) (λ q. (b, tt)))
     (λ p. arms (ArmIn s) (cmp k (keyIn s (slotOf hi))) (λ q. (tt, b)) (λ q. (tt, tt)) (λ q. (tt, b)))
-    (λ p. arms (ArmIn s) (cmp k (keyIn s (slotOf hi))) (λ q. (tt, b)) (λ q. (b, tt)) (λ q. tt))
+    (λ p. (tt, b))
 arm-in s (walk.Lookup i) f k b = arms (ArmIn s) (cmp (keyIn s i) k) (λ q. (b, tt)) (λ q. (tt, tt)) (λ q. (tt, b))
 
 shape-in : (s : List ℕ) (x : Shape) (l : Part) (m : What) (r : Part) → PartIn s l → PartIn s r → PartIn s (recordsOf x l m r .left) × PartIn s (recordsOf x l m r .right)
 shape-in s M l m r a b = (tt, tt)
 shape-in s ForkLM l m r a b = (a, tt)
 shape-in s ForkMR l m r a b = (tt, b)
-shape-in s PrunedLMR l m r a b = (tt, tt)
 shape-in s ForkLPrunedMR l m r a b = (a, tt)
 shape-in s ForkLForkMR l m r a b = (a, b)
 
 records-in : (s : List ℕ) (a : Arm) (x y : Bool) → ArmIn s a → PartIn s (recordsAt a x y .left) × PartIn s (recordsAt a x y .right)
-records-in s (Fork l m r) x y h = shape-in s (shapeOf (kindOfPart x l) (kindOfWhat m) (kindOfPart y r)) l m r (h .0) (h .1)
-records-in s Pruned x y h = (tt, tt)
+records-in s a x y h =
+    shape-in s (shapeOf (kindOfPart x (a .left)) (kindOfWhat (a .middle)) (kindOfPart y (a .right))) (a .left) (a .middle) (a .right) (h .0) (h .1)
 
 pub parts-in : (s : List ℕ) (n : ℕ) (w : Walk) (f : What) → BoundsIn s w → PartIn s (recordsIn s n w f .left) × PartIn s (recordsIn s n w f .right)
 parts-in s n w f b = records-in s (armsAt (keyIn s) w f (keyIn s n)) (eqb (slot s n .left) 0) (eqb (slot s n .right) 0) (arm-in s w f (keyIn s n) b)

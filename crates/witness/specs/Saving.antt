@@ -1,5 +1,4 @@
 -- What the calls answer: the number and the length beside the output's bytes at the end, as crate store has it.
--- Assumes nothing: these are definitions.
 use mathlib.Core.Path.{_≡_}
 use mathlib.Core.Bool.{cond}
 use mathlib.Core.List.{List}
@@ -17,15 +16,9 @@ use Rattle.witness_walks.specs.declared.What.{What}
 use Rattle.witness_walks.specs.declared.Part.the-variants.{Walked}
 use Rattle.witness_walks.specs.Arms.{slotOf}
 use Rattle.witness_walks.specs.InStore.{BoundsIn}
-use Rattle.witness.specs.declared.Saved.{Saved}
+use Rattle.answers.specs.declared.Saved.{Saved}
+pub use Rattle.answers.specs.Answers.{answered, putFront}
 use Rattle.witness.specs.Putting.{Laid, bytesBelow}
-
-abbrev pub answered : Saved → (output : List ℕ) → Written
-answered r o = record { number = r .number; size = r .size; output = o }
-
--- w at the front of o, if o has room for it
-abbrev pub putFront : (o w : List ℕ) → Written
-putFront o w = written o (cond (ltb (length o) (length w)) (refused NoRoom) (done w))
 
 abbrev pub CanSave : List ℕ → ℕ → Walk → Type 0
 CanSave s n walk = (t : Tree) × Laid s n t × BoundsIn s walk

@@ -1,12 +1,17 @@
 // The witnesses of a store, written: first the room that a witness takes, then its records, parent first.
+use answers::NO_ROOM;
+use answers::Saved;
 use hash_tree::EMPTY;
 use hash_tree::FORK;
 use hash_tree::LABELED;
 use hash_tree::LEAF;
 use hash_tree::PRUNED;
 use hash_tree::fork_hash;
-use hash_tree::labeled_hash;
 use hash_tree::leaf_hash;
+use output::Room;
+use output::less;
+use output::put_head;
+use output::put_piece;
 use search::Bound;
 use search::Found;
 use search::get;
@@ -23,74 +28,20 @@ use witness_walks::Walk;
 use witness_walks::What;
 use witness_walks::records_at;
 ghost use mathlib.Core.Path.{_≡_};
-ghost use Prim.Native.Nat.{_+_, _≤_, _<_};
+ghost use Prim.Native.Nat.{_+_, _≤_};
 ghost use lib.ListN.{length};
-ghost use Rattle.hash_tree.specs.Written.{head, piece};
 ghost use Rattle.llrb.specs.Digests.{dataDigest};
 ghost use Rattle.search.specs.Search.{EntryAt};
 ghost use Rattle.witness_walks.specs.Walked.{forkBytes};
 ghost use Rattle.witness_walks.specs.InStore.{entryIn, shownIn, middleIn, MiddleAt, hiddenIn, HiddenAt, hiddenLen};
-ghost use Rattle.witness.specs.Putting.{Puts, roomAfter, CanFit, Fits, CanWrite, Writes};
-ghost use Rattle.witness.specs.Saving.{answered, Saves, CanSave, CanRange};
+ghost use Rattle.output.specs.Putting.{Puts};
+ghost use Rattle.witness.specs.Putting.{CanFit, Fits, CanWrite, Writes};
+ghost use Rattle.answers.specs.Answers.{answered};
+ghost use Rattle.witness.specs.Saving.{Saves, CanSave, CanRange};
 ghost use mathlib.Core.Bool.{false};
 ghost use Rattle.store.specs.Sound.{Sound};
 ghost use Rattle.store.specs.Calls.{reversed, asHashTreeAnswer, keysAnswer, witnessAnswer, keyRangeAnswer, valueRangeAnswer, keysWithPrefixAnswer};
 ghost use Rattle.witness_walks.specs.Bounds.{walkBetween};
-
-// The room that is left for writing.
-pub enum Room {
-    Left(usize),
-    Short,
-}
-
-// ---- room
-
-// `n` bytes out of a room.
-fn less(room: Room, n: usize) -> Room
-    ensures { λ r. ⌜ r ≡ roomAfter n room ⌝ }
-{
-    let Room::Left(m) = room else {
-        return Room::Short;
-    };
-    if n <= m {
-        Room::Left(m - n)
-    } else {
-        Room::Short
-    }
-}
-
-// ---- records
-
-// The 16 bits that open a record.
-fn put_head(out: &mut [u8], at: usize, kind: usize, len: usize) -> usize
-    requires { ⌜ (kind < 5) × (len ≤ 64) × (at + 2 ≤ length (now out)) ⌝ }
-    ensures { λ r. ⌜ Puts (now (out .entry)) (now (out .exit)) at r (head kind len) ⌝ }
-{
-    out[at] = (kind * 32 + len / 256) as u8;
-    out[at + 1] = (len % 256) as u8;
-    at + 2
-}
-
-fn put_bytes(out: &mut [u8], at: usize, src: &[u8]) -> usize
-    requires { ⌜ at + length (now src) ≤ length (now out) ⌝ }
-    ensures { λ r. ⌜ Puts (now (out .entry)) (now (out .exit)) at r (now (src .entry)) ⌝ }
-{
-    let mut i = 0;
-    while i < src.len() {
-        out[at + i] = src[i];
-        i += 1;
-    }
-    at + i
-}
-
-// A record without its children.
-fn put_piece(out: &mut [u8], at: usize, kind: usize, src: &[u8]) -> usize
-    requires { ⌜ (kind < 5) × (length (now src) ≤ 64) × (at + length (piece kind (now src)) ≤ length (now out)) ⌝ }
-    ensures { λ r. ⌜ Puts (now (out .entry)) (now (out .exit)) at r (piece kind (now (src .entry))) ⌝ }
-{
-    let x = put_head(out, at, kind, src.len());
-    put_bytes(out, x, src)
-}
 
 // A Fork's head, if the node has one.
 fn put_fork(out: &mut [u8], at: usize, fork: bool) -> usize
@@ -184,7 +135,6 @@ fn put_middle(s: &[u8], n: usize, middle: Middle, out: &mut [u8], at: usize) -> 
             let d = fork_hash(&m, digest(s, slots::right(s, n)));
             put_piece(out, at, PRUNED, &d)
         }
-        Middle::Whole => put_piece(out, at, PRUNED, digest(s, n)),
     }
 }
 
@@ -195,7 +145,6 @@ fn middle_len(s: &[u8], n: usize, middle: Middle) -> usize
     match middle {
         Middle::Entry(what) => shown_len(s, n, what),
         Middle::Both => 34,
-        Middle::Whole => 34,
     }
 }
 
@@ -253,19 +202,16 @@ fn write_tree(s: &[u8], n: usize, part: Part, f: What, out: &mut [u8], at: usize
 
 // ---- the calls, for callers that know the store to be sound and their arguments to be lawful
 
-// 0 and the length of the witness; or 6 and 0, and no byte of the output is changed.
-pub struct Saved {
-    pub number: usize,
-    pub size: usize,
-}
-
 // Writes the witness of a walk to the front of the output, if there is room for it.
 fn save(s: &[u8], n: usize, walk: Walk, f: What, out: &mut [u8]) -> Saved
     requires { ⌜ CanSave (now s) n walk ⌝ }
     ensures { λ r. ⌜ Saves (now (s .entry)) n walk f (now (out .entry)) (now (out .exit)) r ⌝ }
 {
     let Room::Left(_) = fit(s, n, Part::Walked(walk), f, Room::Left(out.len())) else {
-        return Saved { number: 6, size: 0 };
+        return Saved {
+            number: NO_ROOM,
+            size: 0,
+        };
     };
     let size = write_tree(s, n, Part::Walked(walk), f, out, 0);
     Saved { number: 0, size }

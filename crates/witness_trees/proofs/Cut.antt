@@ -1,5 +1,4 @@
 -- Every witness is the whole hash tree with parts cut to their digests: what it shows stands there at the same place.
--- Assumes nothing.
 use mathlib.Core.Path.{_≡_, refl, subst}
 use mathlib.Core.Bool.{Bool, true, false, _&&_}
 use Rattle.hash_tree.specs.HashTree.{Digest, HashTree, Empty, Fork, Leaf, Pruned, forkHash, digest}

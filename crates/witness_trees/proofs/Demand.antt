@@ -1,6 +1,5 @@
 -- The laws of the witnesses on every lawful tree and after any history from the empty map: demand 3's last sentence,
 -- the other calls, and the depth.
--- Assumes nothing.
 use mathlib.Core.Path.{_≡_, refl, sym, _∙_, subst}
 use mathlib.Core.Bool.{Bool}
 use mathlib.Core.List.{List, [], _∷_}

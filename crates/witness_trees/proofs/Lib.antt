@@ -1,4 +1,4 @@
--- What holds of every witness. Results: Laws (per call), Demand (after any history), Words, Root, Never, OneWalk, Loops, Cut.
+-- What holds of every witness. Results: Laws (per call), Demand (after any history), Words, Root, Never, View, Loops, Cut.
 pub mod Shown
 pub mod Lists
 pub mod Walks
@@ -11,5 +11,5 @@ pub mod Words
 pub mod Demand
 pub mod Root
 pub mod Loops
-pub mod OneWalk
 pub mod Cut
+pub mod View

@@ -1,5 +1,4 @@
 -- What holds of `shown f t` for every rule f and every tree: digest, what it says, depth, and when it is Pruned.
--- Assumes nothing.
 use mathlib.Core.Path.{_≡_, refl, sym, ap, _∙_}
 use mathlib.Core.Bool.{Bool, true, false, not, cond, _&&_, true≢false, and-assoc}
 use mathlib.Core.List.{List, [], _∷_, _++_, append-nil, append-assoc}

@@ -1,5 +1,4 @@
 -- What each call is to show, in the words of document 01 and from the list of keys alone.
--- Assumes nothing: these are definitions.
 use mathlib.Core.Path.{_≡_}
 use mathlib.Core.Bool.{Bool, true, false, not, cond, _&&_, _||_}
 use mathlib.Core.List.{List, [], _∷_}
@@ -14,7 +13,7 @@ use Rattle.llrb.specs.Shape.{height}
 use Rattle.llrb.specs.Digests.{rootHash}
 use Rattle.witness_trees.specs.Reading.{labels, leaves, Told, says, depth}
 use Rattle.witness_trees.specs.Shown.{What, Hide, Label}
-use Rattle.witness_trees.specs.Witness.{Form, seen, KeyBound, Exact, Neighbor}
+use Rattle.witness_trees.specs.Witness.{Form, seen, KeyBound, Exact, Neighbor, at}
 
 -- ---- what a bound is
 
@@ -50,6 +49,12 @@ abbrev pub IsPast : Key → List Entry → Option KeyBound → Type 0
 IsPast p L none = (x : Entry) → In x L → passes p (x .key) ≡ false
 IsPast p L (some (Exact b)) = ⊥
 IsPast p L (some (Neighbor b)) = In b L × (passes p (b .key) ≡ true) × ((x : Entry) → In x L → Lt (x .key) (b .key) → passes p (x .key) ≡ false)
+
+-- `debug_assert!(lo <= hi)`: where both bounds exist, the low one is not above the high one
+abbrev pub InOrder : (low high : Option KeyBound) → Type 0
+InOrder none hi = Unit {0}
+InOrder (some lo) none = Unit {0}
+InOrder (some lo) (some hi) = Le (at lo) (at hi)
 
 -- ---- in the words of document 01, from the list of keys alone (`ks`: the keys of the map, in order)
 

@@ -1,5 +1,4 @@
 -- Document 01, "Witness trees", first paragraph: how three parts join, and the witness that shows what a rule says, entry by entry.
--- Assumes nothing: these are definitions.
 use mathlib.Core.Bool.{Bool, true, false, cond, _&&_}
 use mathlib.Core.List.{List, [], _∷_, _++_}
 use Rattle.hash_tree.specs.HashTree.{Digest, HashTree, Empty, Fork, Labeled, Leaf, Pruned, forkHash, leafHash, digest}
@@ -68,12 +67,3 @@ traced f nil = Empty
 traced f (node c e l r) =
     cond (quiet f (entries l ++ (e ∷ entries r))) (Pruned (subtreeDigest (node c e l r)))
     (spread (isNil l) (isNil r) (isHide (f e) && quiet f (entries r)) (forkHash (dataDigest e) (subtreeDigest r)) (traced f l) (item (f e) e) (traced f r))
-
--- ---- Q-6: joining without the rule of three Pruned
-unfoldable pub threeWayForkShort : HashTree → HashTree → HashTree → HashTree
-threeWayForkShort l m r =
-    cond (isEmpty l && isEmpty r) m
-    (cond (isEmpty r) (Fork l m)
-    (cond (isEmpty l) (Fork m r)
-    (cond (isPruned m && isPruned r) (Fork l (Pruned (forkHash (digest m) (digest r))))
-    (Fork l (Fork m r)))))

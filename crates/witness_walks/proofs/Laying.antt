@@ -1,5 +1,4 @@
 -- What the writer reads where a tree lies in the store: the tree's own entries, children and digests.
--- Assumes nothing.
 use mathlib.Core.Path.{_≡_, refl, sym, ap, _∙_}
 use mathlib.Core.Bool.{Bool, true, false, cond, _&&_, true≢false}
 use mathlib.Core.List.{List}
@@ -22,13 +21,11 @@ use Rattle.witness_trees.specs.Witness.{prunedTree}
 use Rattle.witness_walks.specs.declared.What.{What}
 use Rattle.witness_walks.specs.declared.What.the-variants.{Hide, Label, Show}
 use Rattle.witness_walks.specs.declared.Walk.{Walk}
-use Rattle.witness_walks.specs.declared.Part.{Part}
 use Rattle.witness_walks.specs.declared.Arm.{Arm}
-use Rattle.witness_walks.specs.declared.Arm.the-variants.{Fork, Pruned}
 use Rattle.witness_walks.specs.declared.Shape.{Shape}
-use Rattle.witness_walks.specs.declared.Shape.the-variants.{M, ForkLM, ForkMR, PrunedLMR, ForkLPrunedMR, ForkLForkMR}
+use Rattle.witness_walks.specs.declared.Shape.the-variants.{M, ForkLM, ForkMR, ForkLPrunedMR, ForkLForkMR}
 use Rattle.witness_walks.specs.declared.Middle.{Middle}
-use Rattle.witness_walks.specs.declared.Middle.the-variants.{Entry, Both, Whole}
+use Rattle.witness_walks.specs.declared.Middle.the-variants.{Entry, Both}
 use Rattle.witness_walks.specs.Arms.{armsAt}
 use Rattle.witness_walks.specs.Records.{isEmpty, kindOfPart, kindOfWhat, shapeOf, recordsOf, recordsAt}
 use Rattle.witness_walks.specs.Walked.{whatOf, middleBytes}
@@ -40,26 +37,21 @@ nil-zero {h = h} nil a = eq-eqb h 0 (sym (a .top))
 nil-zero {h = h} (node c e l r) a = ne-eqb h 0 (λ q. omega (arith, top-in a .low, q))
 
 -- what can stand in the middle; the right side is merged only where there is one
-module _ (P : Middle → Type 0) (l r : Part) (m : What) (p : P (Entry m)) (w : P Whole) where
-  shape-middle : P Both → (x : Shape) → P (recordsOf x l m r .middle)
+module _ (P : Middle → Type 0) (a : Arm) (p : P (Entry (a .middle))) where
+  shape-middle : P Both → (x : Shape) → P (recordsOf x (a .left) (a .middle) (a .right) .middle)
   shape-middle q M = p
   shape-middle q ForkLM = p
   shape-middle q ForkMR = p
-  shape-middle q PrunedLMR = w
   shape-middle q ForkLPrunedMR = q
   shape-middle q ForkLForkMR = p
 
-  arm-middle : (noLeft noRight : Bool) → (noRight ≡ false → P Both) → P (recordsAt (Fork l m r) noLeft noRight .middle)
-  arm-middle noLeft true q = go (isEmpty (kindOfPart noLeft l))
+  arm-middle : (noLeft noRight : Bool) → (noRight ≡ false → P Both) → P (recordsAt a noLeft noRight .middle)
+  arm-middle noLeft true q = go (isEmpty (kindOfPart noLeft (a .left)))
     where
-      go : (b : Bool) → P (recordsOf (cond (b && true) M ForkLM) l m r .middle)
+      go : (b : Bool) → P (recordsOf (cond (b && true) M ForkLM) (a .left) (a .middle) (a .right) .middle)
       go true = p
       go false = p
-  arm-middle noLeft false q = shape-middle (q refl) (shapeOf (kindOfPart noLeft l) (kindOfWhat m) (kindOfPart false r))
-
-middle-cases : (P : Middle → Type 0) (a : Arm) (noLeft noRight : Bool) → ((m : What) → P (Entry m)) → (noRight ≡ false → P Both) → P Whole → P (recordsAt a noLeft noRight .middle)
-middle-cases P (Fork l m r) noLeft noRight p q w = arm-middle P l r m (p m) w noLeft noRight q
-middle-cases P Pruned noLeft noRight p q w = w
+  arm-middle noLeft false q = shape-middle (q refl) (shapeOf (kindOfPart noLeft (a .left)) (kindOfWhat (a .middle)) (kindOfPart false (a .right)))
 
 -- ---- digests
 
@@ -99,12 +91,10 @@ module _ {s : List ℕ} {h : ℕ} {c : Bool} {e : TheEntry} {l r : Tree} (a : Li
 
   -- the middle as it is read is the middle of the tree
   pub middle-held : Digests s (node c e l r) → (walk : Walk) (f : What)
-      → (middleIn s h (recordsIn s h walk f .middle) ≡ middleBytes (recordsIn s h walk f .middle) e (node c e l r)) × MiddleAt s h (recordsIn s h walk f .middle)
+      → (middleIn s h (recordsIn s h walk f .middle) ≡ middleBytes (recordsIn s h walk f .middle) e r) × MiddleAt s h (recordsIn s h walk f .middle)
   middle-held d walk f =
       rw (records-held walk f)
-      (middle-cases (λ x. (middleIn s h x ≡ middleBytes x e (node c e l r)) × MiddleAt s h x) (armsAt (keyIn s) walk f (e .key)) (isNil l) (isNil r)
-      (λ m. (shown-held m, tt))
+      (arm-middle (λ x. (middleIn s h x ≡ middleBytes x e r) × MiddleAt s h x) (armsAt (keyIn s) walk f (e .key)) (shown-held (armsAt (keyIn s) walk f (e .key) .middle), tt) (isNil l) (isNil r)
       (λ q.
       let k = lies-right a refl in
-      (rw (data-held, digest-held r k (d .2) q), in-held r k q))
-      (rw (digest-held (node c e l r) a d refl), tt))
+      (rw (data-held, digest-held r k (d .2) q), in-held r k q)))

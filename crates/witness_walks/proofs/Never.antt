@@ -1,72 +1,91 @@
--- Q-6 in advance: where a walk arrives, neither the rule of three Pruned nor the last arm of witness_range_between is ever taken.
--- Assumes nothing.
+-- Request Q-6: on any sorted tree no call joins three Pruned parts, and none meets a key that lies below its low and above its high bound;
+-- of a range this asks for found bounds in order, which first not above last gives, and a prefix always. So both arms are left out here.
+-- witness_trees/proofs/Never has it of the Rust's own functions: whatever stands in the place of both arms, each call gives the same.
+use mathlib.Core.Path.{_≡_}
+use mathlib.Core.Logic.{inl}
+use mathlib.Core.Bool.{Bool}
+use mathlib.Core.Option.{Option, none, some}
 use Prim.Native.Nat.{ℕ}
-use mathlib.Core.Path.{_≡_, refl}
-use mathlib.Core.Logic.{_⊎_, inl, inr}
-use mathlib.Core.Bool.{Bool, true, false, cond, _&&_}
-use native.Mathlib.Omega.{arith}
-use Rattle.key_order.specs.Order.{Key}
-use Rattle.llrb.specs.Tree.{Entry as TheEntry, Tree, nil, node}
-use Rattle.llrb.specs.Digests.{isNil}
-use Rattle.witness_trees.specs.Witness.{Form}
+use Rattle.key_order.specs.Order.{Key, cmp}
+use Rattle.key_order.proofs.Laws.{cmp-trans, gt-lt}
+use Rattle.llrb.specs.Tree.{Entry, Tree, node, entries}
+use Rattle.llrb.specs.Sorted.{Sorted, Mem}
+use Rattle.witness_trees.specs.Witness.{Form, keysOnly, values, KeyBound, lowerBound, upperBound, rightPrefixNeighbor}
+use Rattle.witness_trees.specs.Rules.{Le, InOrder}
+use Rattle.witness_trees.proofs.Bounds.{lower-is, upper-is, past-is}
+use Rattle.witness_trees.proofs.Lists.{lt-irr}
+use Rattle.witness_trees.proofs.Calls.{Present, low-present, high-present, past-present, bounds-in-order, prefix-in-order}
 use Rattle.witness_walks.specs.declared.Walk.{Walk}
-use Rattle.witness_walks.specs.declared.What.{What}
+use Rattle.witness_walks.specs.declared.Walk.the-variants.{Full, Above, Below, Between, Lookup}
 use Rattle.witness_walks.specs.declared.Part.{Part}
-use Rattle.witness_walks.specs.declared.Part.the-variants.{Nothing, Hidden, Walked}
-use Rattle.witness_walks.specs.declared.Arm.{Arm}
-use Rattle.witness_walks.specs.declared.Arm.the-variants.{Fork, Pruned}
-use Rattle.witness_walks.specs.declared.Shape.the-variants.{M, ForkLM, ForkMR, PrunedLMR, ForkLPrunedMR, ForkLForkMR}
-use Rattle.witness_walks.specs.declared.Middle.the-variants.{Whole}
-use Rattle.witness_walks.specs.Arms.{armsAt}
-use Rattle.witness_walks.specs.Records.{isEmpty, isPruned, kindOfPart, kindOfWhat, recordsOf, recordsAt}
+use Rattle.witness_walks.specs.declared.Part.the-variants.{Walked}
+use Rattle.witness_walks.specs.Arms.{slotOf, armsAt}
+use Rattle.witness_walks.specs.Bounds.{rangeWalk}
 use Rattle.witness_walks.specs.Walked.{showing}
-use Rattle.witness_walks.proofs.Reached.{Enters, Loud, Goes, Reached, goes}
+use Rattle.witness_walks.specs.Met.{Meets, here, on-left, on-right, Outside, Never}
+use Rattle.witness_walks.proofs.Reached.{Reached, ReachedPart, goes, not-three}
+use Rattle.witness_walks.proofs.Walking.{PlacedEnd}
 
--- the last arm is not reached
-pub never-last : (K : ℕ → Key) (w : Form) (walk : Walk) (c : Bool) (e : TheEntry) (l r : Tree) → Reached K walk (node c e l r)
-    → armsAt K walk (showing w) (e .key) ≡ Pruned → ⊥
-never-last K w walk c e l r h q = rw q at (goes K w walk c e l r h)
+-- ---- what holds where a walk starts holds where it comes to
 
--- a side walked into is not Pruned
-entered : (t : Tree) (p : Part) → Enters p t → isPruned (kindOfPart (isNil t) p) ≡ false
-entered nil Nothing h = absurd h
-entered nil Hidden h = absurd h
-entered nil (Walked v) h = absurd h
-entered (node c e l r) (Walked v) h = refl
+met-reached : (K : ℕ → Key) (g : Form) {w v : Walk} {t u : Tree} → Reached K w t → Meets K (showing g) w t v u → Reached K v u
+met-reached K g h here = h
+met-reached K g {w = w} h (on-left {c = c} {e = e} {l = l} {r = r} q m) = met-reached K g (rw q at (goes K g w c e l r h .0)) m
+met-reached K g {w = w} h (on-right {c = c} {e = e} {l = l} {r = r} q m) = met-reached K g (rw q at (goes K g w c e l r h .1)) m
 
-not-all : (a b c : Bool) → (a ≡ false) ⊎ ((b ≡ false) ⊎ (c ≡ false)) → (a && (b && c)) ≡ false
-not-all a b c (inl h) = rw h
-not-all true b c (inr (inl h)) = rw h
-not-all false b c (inr (inl h)) = refl
-not-all true true c (inr (inr h)) = h
-not-all true false c (inr (inr h)) = refl
-not-all false b c (inr (inr h)) = refl
+not-outside : (K : ℕ → Key) (w : Walk) (k : Key) (t : Tree) → Reached K w t → Outside K w k → ⊥
+not-outside K Full k t h o = o
+not-outside K (Above lo) k t h o = o
+not-outside K (Below hi) k t h o = o
+not-outside K (Between lo hi) k t h o = h .0 (cmp-trans (K (slotOf hi)) k (K (slotOf lo)) (gt-lt k (K (slotOf hi)) (o .1)) (gt-lt (K (slotOf lo)) k (o .0)))
+not-outside K (Lookup i) k t h o = o
 
--- the six rules without the fourth give no Pruned of the whole
-no-whole : (l r : Part) (m : What) (a b c d f : Bool) → d ≡ false
-    → recordsOf (cond a M (cond b ForkLM (cond c ForkMR (cond d PrunedLMR (cond f ForkLPrunedMR ForkLForkMR))))) l m r .middle ≡ Whole → ⊥
-no-whole l r m true b c d f h q = let z : _≡_ {A = ℕ} 0 1 = cc in omega arith
-no-whole l r m false true c d f h q = let z : _≡_ {A = ℕ} 0 1 = cc in omega arith
-no-whole l r m false false true d f h q = let z : _≡_ {A = ℕ} 0 1 = cc in omega arith
-no-whole l r m false false false true f h q = let z : _≡_ {A = ℕ} 0 1 = cc in omega arith
-no-whole l r m false false false false true h q = let z : _≡_ {A = ℕ} 0 1 = cc in omega arith
-no-whole l r m false false false false false h q = let z : _≡_ {A = ℕ} 0 1 = cc in omega arith
+-- NEITHER ARM IS EVER REACHED
+pub never : (K : ℕ → Key) (g : Form) (w : Walk) (t : Tree) → Reached K w t → Never K (showing g) w t
+never K g w t h v c e l r m =
+    let k = met-reached K g h m in
+    (not-three K g v c e l r k, not-outside K v (e .key) (node c e l r) k)
 
--- NEITHER RULE IS TAKEN: no node that a walk arrives at is written as one Pruned
-pub never-whole : (K : ℕ → Key) (w : Form) (walk : Walk) (c : Bool) (e : TheEntry) (l r : Tree) → Reached K walk (node c e l r)
-    → recordsAt (armsAt K walk (showing w) (e .key)) (isNil l) (isNil r) .middle ≡ Whole → ⊥
-never-whole K w walk c e l r h = on (armsAt K walk (showing w) (e .key)) (goes K w walk c e l r h)
-  where
-    on : (a : Arm) → Goes K a l r → recordsAt a (isNil l) (isNil r) .middle ≡ Whole → ⊥
-    on (Fork p m q) (x, y, z) =
-        let kl = kindOfPart (isNil l) p in
-        let km = kindOfWhat m in
-        let kr = kindOfPart (isNil r) q in
-        no-whole p q m (isEmpty kl && isEmpty kr) (isEmpty kr) (isEmpty kl) (isPruned kl && (isPruned km && isPruned kr)) (isPruned km && isPruned kr)
-        (not-all (isPruned kl) (isPruned km) (isPruned kr) (some z))
-      where
-        some : Loud m ⊎ (Enters p l ⊎ Enters q r) → (isPruned (kindOfPart (isNil l) p) ≡ false) ⊎ ((isPruned (kindOfWhat m) ≡ false) ⊎ (isPruned (kindOfPart (isNil r) q) ≡ false))
-        some (inl u) = inr (inl u)
-        some (inr (inl u)) = inl (entered l p u)
-        some (inr (inr u)) = inr (inr (entered r q u))
-    on Pruned g = λ q. g
+-- ---- of each call; K gives the key of a bound's slot
+
+module _ (K : ℕ → Key) (t : Tree) where
+  pub as-hash-tree-never : Never K (showing values) Full t
+  as-hash-tree-never = never K values Full t tt
+
+  pub keys-never : Never K (showing keysOnly) Full t
+  keys-never = never K keysOnly Full t tt
+
+  module _ (s : Sorted (entries t)) where
+    pub range-reached : (g : Form) (lo hi : Option KeyBound) → PlacedEnd K g lo → PlacedEnd K g hi → Present lo (entries t) → Present hi (entries t) → InOrder lo hi → Reached K (rangeWalk lo hi) t
+    range-reached g none none a b p q o = tt
+    range-reached g (some lo) none a b p q o = (s, inl (rw a p))
+    range-reached g none (some hi) a b p q o = (s, inl (rw b q))
+    range-reached g (some lo) (some hi) a b p q o = (rw (a, b) o, s, inl (rw a p), inl (rw b q))
+
+    -- key_range and value_range, by their form; found bounds in order are enough
+    pub range-never : (g : Form) (first last : Key) → PlacedEnd K g (lowerBound first t) → PlacedEnd K g (upperBound last t) → InOrder (lowerBound first t) (upperBound last t)
+        → Never K (showing g) (rangeWalk (lowerBound first t) (upperBound last t)) t
+    range-never g first last a b o =
+        never K g _ t (range-reached g (lowerBound first t) (upperBound last t) a b
+        (low-present first (entries t) (lowerBound first t) (lower-is first t s)) (high-present last (entries t) (upperBound last t) (upper-is last t s)) o)
+
+    pub key-range-never : (first last : Key) → PlacedEnd K keysOnly (lowerBound first t) → PlacedEnd K keysOnly (upperBound last t) → Le first last
+        → Never K (showing keysOnly) (rangeWalk (lowerBound first t) (upperBound last t)) t
+    key-range-never first last a b h = range-never keysOnly first last a b (bounds-in-order first last t s h)
+
+    pub value-range-never : (first last : Key) → PlacedEnd K values (lowerBound first t) → PlacedEnd K values (upperBound last t) → Le first last
+        → Never K (showing values) (rangeWalk (lowerBound first t) (upperBound last t)) t
+    value-range-never first last a b h = range-never values first last a b (bounds-in-order first last t s h)
+
+    pub prefix-never : (p : Key) → PlacedEnd K keysOnly (lowerBound p t) → PlacedEnd K keysOnly (rightPrefixNeighbor p t)
+        → Never K (showing keysOnly) (rangeWalk (lowerBound p t) (rightPrefixNeighbor p t)) t
+    prefix-never p a b =
+        never K keysOnly _ t (range-reached keysOnly (lowerBound p t) (rightPrefixNeighbor p t) a b
+        (low-present p (entries t) (lowerBound p t) (lower-is p t s)) (past-present p (entries t) (rightPrefixNeighbor p t) (past-is p t s)) (prefix-in-order p t s))
+
+    -- witness of a present key, and of an absent one
+    pub witness-never : (i : ℕ) → Mem (K i) (entries t) → Never K (showing values) (Lookup i) t
+    witness-never i m = never K values (Lookup i) t (s, m)
+
+    pub absent-never : (k : Key) → PlacedEnd K keysOnly (lowerBound k t) → PlacedEnd K keysOnly (upperBound k t) → Never K (showing keysOnly) (rangeWalk (lowerBound k t) (upperBound k t)) t
+    absent-never k a b = key-range-never k k a b (lt-irr k)

@@ -1,11 +1,11 @@
--- Each walk, arm by arm, is the Rust's: its arms at a node are those of the pure function, on every tree.
--- Assumes nothing.
+-- Each walk, arm by arm, is the Rust's: its arms at a node are those of the pure function, on every tree and for bounds in order.
 use mathlib.Core.Path.{_≡_, refl}
 use mathlib.Core.Option.{Option, none, some}
 use Prim.Native.Nat.{ℕ}
 use Rattle.key_order.specs.declared.Ordering.{Ordering}
 use Rattle.key_order.specs.declared.Ordering.the-variants.{Less, Equal, Greater}
 use Rattle.key_order.specs.Order.{Key, cmp, pick}
+use Rattle.key_order.proofs.Laws.{gt-lt}
 use Rattle.hash_tree.specs.HashTree.{HashTree}
 use Rattle.llrb.specs.Tree.{Tree, nil, node, entries}
 use Rattle.llrb.specs.Sorted.{Sorted, Mem}
@@ -13,7 +13,8 @@ use Rattle.llrb.proofs.Lists.{mem-left, mem-right}
 use Rattle.witness_trees.specs.Shown.{threeWayFork}
 use Rattle.witness_trees.specs.Shown as shown
 use Rattle.witness_trees.specs.Witness.{Form, keysOnly, values, seen, KeyBound, Exact, Neighbor, at, prunedTree, ends, both, lastArm, fullWitnessTree, witnessRangeAbove, witnessRangeBelow, witnessRangeBetween, rangeWitness, lookupAndBuildWitness}
-use Rattle.witness_trees.proofs.Lists.{arms, sorted-l, sorted-r}
+use Rattle.witness_trees.specs.Rules.{Le, InOrder}
+use Rattle.witness_trees.proofs.Lists.{lt-le, sorted-l, sorted-r}
 use Rattle.witness_walks.specs.declared.What.{What}
 use Rattle.witness_walks.specs.declared.Part.{Part}
 use Rattle.witness_walks.specs.declared.Arm.{Arm}
@@ -70,7 +71,7 @@ module _ (K : ℕ → Key) (w : Form) where
       let ir = walk-above lo h r in
       let hl = hidden-tree K (showing w) l in
       rw h
-      (both-arms (λ a u. joined a (made l) (made r) e (node c e l r) ≡ u) (cmp (e .key) (at lo))
+      (both-arms (λ a u. joined a (made l) (made r) e ≡ u) (cmp (e .key) (at lo))
       (λ q. rw (hl, ir))
       (λ q. rw (hl, what-ends lo w, walk-full r))
       (λ q. rw (il, what-seen w, walk-full r)))
@@ -83,37 +84,38 @@ module _ (K : ℕ → Key) (w : Form) where
       let ir = walk-below hi h r in
       let hr = hidden-tree K (showing w) r in
       rw h
-      (both-arms (λ a u. joined a (made l) (made r) e (node c e l r) ≡ u) (cmp (e .key) (at hi))
+      (both-arms (λ a u. joined a (made l) (made r) e ≡ u) (cmp (e .key) (at hi))
       (λ q. rw (walk-full l, what-seen w, ir))
       (λ q. rw (walk-full l, what-ends hi w, hr))
       (λ q. rw (il, hr)))
 
-  pub walk-between : (lo hi : KeyBound) → Placed K lo → Placed K hi → (t : Tree) → made t (Walked (Between (keyBoundSlot lo) (keyBoundSlot hi))) ≡ witnessRangeBetween threeWayFork lastArm lo hi w t
+  -- the low bound is not above the high one: of the Rust's nine pairs the last three are then one
+  pub walk-between : (lo hi : KeyBound) → Placed K lo → Placed K hi → Le (at lo) (at hi) → (t : Tree) → made t (Walked (Between (keyBoundSlot lo) (keyBoundSlot hi))) ≡ witnessRangeBetween threeWayFork lastArm lo hi w t
   unfolding partTree witnessRangeBetween
-  walk-between lo hi h k nil = refl
-  walk-between lo hi h k (node c e l r) =
-      let il = walk-between lo hi h k l in
-      let ir = walk-between lo hi h k r in
+  walk-between lo hi h k ord nil = refl
+  walk-between lo hi h k ord (node c e l r) =
+      let il = walk-between lo hi h k ord l in
+      let ir = walk-between lo hi h k ord r in
       let hl = hidden-tree K (showing w) l in
       let hr = hidden-tree K (showing w) r in
-      let R : Arm → HashTree → Type 0 = λ a u. joined a (made l) (made r) e (node c e l r) ≡ u in
+      let R : Arm → HashTree → Type 0 = λ a u. joined a (made l) (made r) e ≡ u in
       rw (h, k)
       (both-arms R (cmp (at lo) (e .key))
       (λ p. both-arms R (cmp (e .key) (at hi)) (λ q. rw (il, what-seen w, ir)) (λ q. rw (il, what-ends hi w, hr)) (λ q. rw (il, hr)))
       (λ p. both-arms R (cmp (e .key) (at hi)) (λ q. rw (hl, what-ends lo w, ir)) (λ q. rw (hl, what-both lo hi w, hr)) (λ q. rw (hl, what-ends lo w, ir)))
-      (λ p. both-arms R (cmp (e .key) (at hi)) (λ q. rw (hl, ir)) (λ q. rw (il, what-ends hi w, hr)) (λ q. refl)))
+      (λ p. rw (lt-le (e .key) (at lo) (at hi) (gt-lt (at lo) (e .key) p) ord, hl, ir)))
 
   abbrev pub PlacedEnd : Option KeyBound → Type 0
   PlacedEnd none = Unit {0}
   PlacedEnd (some b) = Placed K b
 
   -- `range_witness`
-  pub walk-range : (lo hi : Option KeyBound) → PlacedEnd lo → PlacedEnd hi → (t : Tree) → made t (Walked (rangeWalk lo hi)) ≡ rangeWitness threeWayFork lastArm lo hi w t
+  pub walk-range : (lo hi : Option KeyBound) → PlacedEnd lo → PlacedEnd hi → InOrder lo hi → (t : Tree) → made t (Walked (rangeWalk lo hi)) ≡ rangeWitness threeWayFork lastArm lo hi w t
   unfolding rangeWitness
-  walk-range none none p q t = walk-full t
-  walk-range (some lo) none p q t = walk-above lo p t
-  walk-range none (some hi) p q t = walk-below hi q t
-  walk-range (some lo) (some hi) p q t = walk-between lo hi p q t
+  walk-range none none p q o t = walk-full t
+  walk-range (some lo) none p q o t = walk-above lo p t
+  walk-range none (some hi) p q o t = walk-below hi q t
+  walk-range (some lo) (some hi) p q o t = walk-between lo hi p q o t
 
 -- `lookup_and_build_witness` of a present key
 pub walk-lookup : (K : ℕ → Key) (f : What) (i : ℕ) (t : Tree) → Sorted (entries t) → Mem (K i) (entries t)
@@ -125,7 +127,7 @@ walk-lookup K f i (node c e l r) s h =
     let R = entries r in
     let il = walk-lookup K f i l (sorted-l L e R s) in
     let ir = walk-lookup K f i r (sorted-r L e R s) in
-    both-arms (λ (u : Option HashTree) a. u ≡ some (joined a (partTree K f l) (partTree K f r) e (node c e l r))) (cmp (K i) (e .key))
+    both-arms (λ (u : Option HashTree) a. u ≡ some (joined a (partTree K f l) (partTree K f r) e)) (cmp (K i) (e .key))
     (λ q. rw (il (mem-left (K i) L e R s q h), hidden-tree K f r))
     (λ q. rw (hidden-tree K f l, hidden-tree K f r))
     (λ q. rw (ir (mem-right (K i) L e R s q h), hidden-tree K f l))

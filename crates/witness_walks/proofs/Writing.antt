@@ -1,23 +1,21 @@
 -- The bytes of a walk are the written form of the hash tree that it makes.
--- Assumes nothing.
 use mathlib.Core.Path.{_≡_, refl, sym}
 use mathlib.Core.List.{[]}
 use Prim.Native.Nat.{ℕ}
 use Rattle.key_order.specs.Order.{Key}
 use Rattle.hash_tree.specs.Written.{write}
 use Rattle.llrb.specs.Tree.{Tree, nil, node}
-use Rattle.llrb.specs.Digests.{isNil, subtreeDigest}
+use Rattle.llrb.specs.Digests.{isNil}
 use Rattle.witness_trees.specs.Witness.{Form}
 use Rattle.witness_walks.specs.declared.What.{What}
 use Rattle.witness_walks.specs.declared.Part.{Part}
 use Rattle.witness_walks.specs.declared.Part.the-variants.{Nothing, Hidden, Walked}
 use Rattle.witness_walks.specs.declared.Arm.{Arm}
-use Rattle.witness_walks.specs.declared.Arm.the-variants.{Fork}
 use Rattle.witness_walks.specs.Arms.{armsAt}
 use Rattle.witness_walks.specs.Records.{kindOfPart, recordsAt}
 use Rattle.witness_walks.specs.Walked.{showing, joined, partTree, inOrder, partBytes}
 use Rattle.witness_walks.proofs.Joining.{join-bytes}
-use Rattle.witness_walks.proofs.Reached.{ReachedPart, Goes, goes, part-kind, pruned-part}
+use Rattle.witness_walks.proofs.Reached.{ReachedPart, Goes, goes, part-kind, pruned-part, not-three}
 
 pub nothing-bytes : (K : ℕ → Key) (f : What) (t : Tree) → partBytes K f t Nothing ≡ []
 unfolding partBytes
@@ -30,21 +28,19 @@ part-bytes K w nil Hidden h = refl
 part-bytes K w nil (Walked walk) h = refl
 part-bytes K w (node c e l r) Hidden h = refl
 part-bytes K w (node c e l r) (Walked walk) h =
-    on (armsAt K walk f (e .key)) (goes K w walk c e l r h) (part-bytes K w l) (part-bytes K w r)
+    on (goes K w walk c e l r h) (part-bytes K w l) (part-bytes K w r)
   where
     f : What
     f = showing w
 
-    on : (a : Arm) → Goes K a l r
+    a : Arm
+    a = armsAt K walk f (e .key)
+
+    on : Goes K a l r
         → ((p : Part) → ReachedPart K p l → partBytes K f l p ≡ write (partTree K f l p))
         → ((p : Part) → ReachedPart K p r → partBytes K f r p ≡ write (partTree K f r p))
-        → inOrder (recordsAt a (isNil l) (isNil r)) (partBytes K f l) (partBytes K f r) e (node c e l r)
-        ≡ write (joined a (partTree K f l) (partTree K f r) e (node c e l r))
-    on (Fork p m q) (a, b, x) il ir =
-        sym (join-bytes p q m e (node c e l r) (partTree K f l p) (partTree K f r q) (kindOfPart (isNil l) p) (kindOfPart (isNil r) q) (partBytes K f l) (partBytes K f r)
-        (part-kind K w l p a) (part-kind K w r q b) (nothing-bytes K f l) (nothing-bytes K f r) (il p a) (ir q b)
-        (λ y z.
-        let u = pruned-part K w l p a y in
-        let v = pruned-part K w r q b z in
-        unfold subtreeDigest in rw (u .0, v .0, u .1, v .1))
-        (λ z. rw (pruned-part K w r q b z .1)))
+        → inOrder (recordsAt a (isNil l) (isNil r)) (partBytes K f l) (partBytes K f r) e r ≡ write (joined a (partTree K f l) (partTree K f r) e)
+    on (p, q, x) il ir =
+        sym (join-bytes (a .left) (a .right) (a .middle) e r (partTree K f l (a .left)) (partTree K f r (a .right)) (kindOfPart (isNil l) (a .left)) (kindOfPart (isNil r) (a .right)) (partBytes K f l) (partBytes K f r)
+        (part-kind K w l (a .left) p) (part-kind K w r (a .right) q) (nothing-bytes K f l) (nothing-bytes K f r) (il (a .left) p) (ir (a .right) q)
+        (not-three K w walk c e l r h) (pruned-part K w r (a .right) q))

@@ -1,5 +1,4 @@
 -- The walk between two bounds (`range_witness`); the Rust's bounds are named by the slots of their entries.
--- Assumes nothing: these are definitions.
 use mathlib.Core.Option.{Option, none, some}
 use Rattle.witness_trees.specs.Witness.{KeyBound}
 use Rattle.search.specs.declared.Bound.{Bound}

@@ -1,5 +1,4 @@
 -- What the writer reads in a store: entries by their slots, and the bytes of what is written of them.
--- Assumes nothing: these are definitions.
 use mathlib.Core.Path.{_≡_}
 use mathlib.Core.Bool.{cond}
 use mathlib.Core.List.{List, []}
@@ -20,7 +19,7 @@ use Rattle.witness_walks.specs.declared.What.{What}
 use Rattle.witness_walks.specs.declared.Part.{Part}
 use Rattle.witness_walks.specs.declared.Part.the-variants.{Nothing, Hidden, Walked}
 use Rattle.witness_walks.specs.declared.Middle.{Middle}
-use Rattle.witness_walks.specs.declared.Middle.the-variants.{Entry, Both, Whole}
+use Rattle.witness_walks.specs.declared.Middle.the-variants.{Entry, Both}
 use Rattle.witness_walks.specs.declared.Records.{Records}
 use Rattle.witness_walks.specs.Arms.{slotOf, armsAt}
 use Rattle.witness_walks.specs.Records.{recordsAt}
@@ -57,17 +56,15 @@ recordsIn s n walk f = recordsAt (armsAt (keyIn s) walk f (keyIn s n)) (eqb (slo
 abbrev pub shownIn : List ℕ → ℕ → What → List ℕ
 shownIn s n m = write (item (whatOf m) (entryIn s n))
 
--- the entry, or one Pruned of entry and right side, or of the subtree: of these the digests lie in the store
+-- the entry, or one Pruned of entry and right side, whose digest lies in the store
 abbrev pub middleIn : List ℕ → ℕ → Middle → List ℕ
 middleIn s n (Entry m) = shownIn s n m
 middleIn s n Both = piece 4 (forkHash (dataDigest (entryIn s n)) (digestOf s (slot s n .right)))
-middleIn s n Whole = piece 4 (digestOf s n)
 
 -- where the right side is merged, there is one
 abbrev pub MiddleAt : List ℕ → ℕ → Middle → Type 0
 MiddleAt s n (Entry m) = Unit {0}
 MiddleAt s n Both = HasSlot (length s) (slot s n .right)
-MiddleAt s n Whole = Unit {0}
 
 -- `left_hash_tree`, `right_hash_tree`
 abbrev pub hiddenIn : List ℕ → ℕ → List ℕ

@@ -4,3 +4,4 @@ pub mod Records
 pub mod Walked
 pub mod InStore
 pub mod Bounds
+pub mod Met

@@ -1,17 +1,15 @@
 -- How the parts of a node join, before any of them is written: `three_way_fork` by the kinds of its parts, and the node's records in order.
--- Assumes nothing: these are definitions.
 use mathlib.Core.Bool.{Bool, true, false, cond, _&&_}
 use Rattle.witness_walks.specs.declared.What.{What}
 use Rattle.witness_walks.specs.declared.What.the-variants.{Hide, Label, Show}
 use Rattle.witness_walks.specs.declared.Part.{Part}
 use Rattle.witness_walks.specs.declared.Part.the-variants.{Nothing, Hidden, Walked}
 use Rattle.witness_walks.specs.declared.Arm.{Arm}
-use Rattle.witness_walks.specs.declared.Arm.the-variants.{Fork, Pruned as PrunedArm}
 use Rattle.witness_walks.specs.declared.Kind.{Kind}
 use Rattle.witness_walks.specs.declared.Kind.the-variants.{Empty, Pruned, Other}
 use Rattle.witness_walks.specs.declared.Shape.{Shape}
-use Rattle.witness_walks.specs.declared.Shape.the-variants.{M, ForkLM, ForkMR, PrunedLMR, ForkLPrunedMR, ForkLForkMR}
-use Rattle.witness_walks.specs.declared.Middle.the-variants.{Entry, Both, Whole}
+use Rattle.witness_walks.specs.declared.Shape.the-variants.{M, ForkLM, ForkMR, ForkLPrunedMR, ForkLForkMR}
+use Rattle.witness_walks.specs.declared.Middle.the-variants.{Entry, Both}
 use Rattle.witness_walks.specs.declared.Records.{Records}
 
 abbrev pub isEmpty : Kind → Bool
@@ -24,15 +22,14 @@ isPruned Empty = false
 isPruned Pruned = true
 isPruned Other = false
 
--- `three_way_fork`: the first rule that fits
+-- `three_way_fork`: the first rule that fits. Its fourth, for three Pruned, is left out: they are never met (proofs/Never)
 abbrev pub shapeOf : (l m r : Kind) → Shape
 shapeOf l m r =
     cond (isEmpty l && isEmpty r) M
     (cond (isEmpty r) ForkLM
     (cond (isEmpty l) ForkMR
-    (cond (isPruned l && (isPruned m && isPruned r)) PrunedLMR
     (cond (isPruned m && isPruned r) ForkLPrunedMR
-    ForkLForkMR))))
+    ForkLForkMR)))
 
 -- of a side: Empty where there is no child; Pruned where it is hidden; a side walked into is never Pruned
 abbrev pub kindOfPart : (missing : Bool) → Part → Kind
@@ -46,20 +43,15 @@ kindOfWhat Hide = Pruned
 kindOfWhat Label = Other
 kindOfWhat Show = Other
 
--- one Pruned of the whole subtree
-abbrev pub wholeRecords : Records
-wholeRecords = record { outer = false; left = Nothing; inner = false; middle = Whole; right = Nothing }
-
 -- the records of a node that joins in this shape, in order
 abbrev pub recordsOf : Shape → (left : Part) (middle : What) (right : Part) → Records
 recordsOf M l m r = record { outer = false; left = Nothing; inner = false; middle = Entry m; right = Nothing }
 recordsOf ForkLM l m r = record { outer = true; left = l; inner = false; middle = Entry m; right = Nothing }
 recordsOf ForkMR l m r = record { outer = true; left = Nothing; inner = false; middle = Entry m; right = r }
-recordsOf PrunedLMR l m r = wholeRecords
 recordsOf ForkLPrunedMR l m r = record { outer = true; left = l; inner = false; middle = Both; right = Nothing }
 recordsOf ForkLForkMR l m r = record { outer = true; left = l; inner = true; middle = Entry m; right = r }
 
 -- the records of a node at an arm: are the children missing?
 abbrev pub recordsAt : Arm → (noLeft noRight : Bool) → Records
-recordsAt (Fork l m r) noLeft noRight = recordsOf (shapeOf (kindOfPart noLeft l) (kindOfWhat m) (kindOfPart noRight r)) l m r
-recordsAt PrunedArm noLeft noRight = wholeRecords
+recordsAt a noLeft noRight =
+    recordsOf (shapeOf (kindOfPart noLeft (a .left)) (kindOfWhat (a .middle)) (kindOfPart noRight (a .right))) (a .left) (a .middle) (a .right)

@@ -1,4 +1,4 @@
-// `three_way_fork` by the kinds of its three parts, and the records that a node becomes.
+// `three_way_fork` by the kinds of its three parts, which are never all Pruned, and the records that a node becomes.
 use crate::Kind;
 use crate::Middle;
 use crate::Part;
@@ -8,7 +8,7 @@ use crate::What;
 ghost use mathlib.Core.Path.{_≡_};
 ghost use mathlib.Core.Bool.{_&&_};
 ghost use lib.Dec.{eqb};
-ghost use Rattle.witness_walks.specs.Records.{isEmpty, isPruned, kindOfPart, kindOfWhat, shapeOf, recordsOf, wholeRecords};
+ghost use Rattle.witness_walks.specs.Records.{isEmpty, isPruned, kindOfPart, kindOfWhat, shapeOf, recordsOf};
 
 fn is_empty(k: Kind) -> bool
     ensures { λ r. ⌜ r ≡ isEmpty k ⌝ }
@@ -42,12 +42,6 @@ fn both_pruned(m: Kind, r: Kind) -> bool
     is_pruned(m) && is_pruned(r)
 }
 
-fn all_pruned(l: Kind, m: Kind, r: Kind) -> bool
-    ensures { λ q. ⌜ q ≡ (isPruned l && (isPruned m && isPruned r)) ⌝ }
-{
-    is_pruned(l) && both_pruned(m, r)
-}
-
 pub fn three_way_fork(l: Kind, m: Kind, r: Kind) -> Shape
     ensures { λ q. ⌜ q ≡ shapeOf l m r ⌝ }
 {
@@ -59,9 +53,6 @@ pub fn three_way_fork(l: Kind, m: Kind, r: Kind) -> Shape
     }
     if is_empty(l) {
         return Shape::ForkMR;
-    }
-    if all_pruned(l, m, r) {
-        return Shape::PrunedLMR;
     }
     if both_pruned(m, r) {
         return Shape::ForkLPrunedMR;
@@ -119,7 +110,6 @@ pub fn records_of(shape: Shape, left: Part, middle: What, right: Part) -> Record
             middle: Middle::Entry(middle),
             right,
         },
-        Shape::PrunedLMR => whole(),
         Shape::ForkLPrunedMR => Records {
             outer: true,
             left,
@@ -134,18 +124,5 @@ pub fn records_of(shape: Shape, left: Part, middle: What, right: Part) -> Record
             middle: Middle::Entry(middle),
             right,
         },
-    }
-}
-
-// One Pruned of the whole subtree.
-pub fn whole() -> Records
-    ensures { λ r. ⌜ r ≡ wholeRecords ⌝ }
-{
-    Records {
-        outer: false,
-        left: Part::Nothing,
-        inner: false,
-        middle: Middle::Whole,
-        right: Part::Nothing,
     }
 }

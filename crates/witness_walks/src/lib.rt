@@ -6,7 +6,6 @@ use crate::fork::kind_of_part;
 use crate::fork::kind_of_what;
 use crate::fork::records_of;
 use crate::fork::three_way_fork;
-use crate::fork::whole;
 use key_order::Ordering;
 use search::KeyBound;
 use slots::key;
@@ -39,14 +38,11 @@ pub enum Part {
     Walked(Walk),
 }
 
-// An arm of a walk: the three parts that it joins, or `pruned(n.subtree_hash)`.
-pub enum Arm {
-    Fork {
-        left: Part,
-        middle: What,
-        right: Part,
-    },
-    Pruned,
+// An arm of a walk: the three parts that it joins.
+pub struct Arm {
+    pub left: Part,
+    pub middle: What,
+    pub right: Part,
 }
 
 // All that `three_way_fork` looks at in a part.
@@ -56,21 +52,19 @@ pub enum Kind {
     Other,
 }
 
-// What `three_way_fork` makes of l, m and r.
+// What `three_way_fork` makes of l, m and r. Its rule of three Pruned is never met (proofs/Never), and is left out.
 pub enum Shape {
     M,
     ForkLM,
     ForkMR,
-    PrunedLMR,
     ForkLPrunedMR,
     ForkLForkMR,
 }
 
-// What stands between the sides: the entry, or one Pruned of entry and right side, or of the whole subtree.
+// What stands between the sides: the entry, or one Pruned of entry and right side.
 pub enum Middle {
     Entry(What),
     Both,
-    Whole,
 }
 
 // The records of a node, in the order in which they are written: [Fork] left [Fork] middle right.
@@ -119,7 +113,7 @@ fn both_seen(lo: KeyBound, hi: KeyBound, f: What) -> What
 fn full_witness_tree(f: What) -> Arm
     ensures { λ r. ⌜ r ≡ fullArms f ⌝ }
 {
-    Arm::Fork {
+    Arm {
         left: Part::Walked(Walk::Full),
         middle: f,
         right: Part::Walked(Walk::Full),
@@ -141,17 +135,17 @@ fn witness_range_above(s: &[u8], n: usize, lo: KeyBound, f: What) -> Arm
     ensures { λ r. ⌜ r ≡ aboveArms lo f (cmp (keyIn (now (s .entry)) n) (keyIn (now (s .entry)) (slotOf lo))) ⌝ }
 {
     match compare_keys(s, n, slot_of(lo)) {
-        Ordering::Equal => Arm::Fork {
+        Ordering::Equal => Arm {
             left: Part::Hidden,
             middle: seen_at(lo, f),
             right: Part::Walked(Walk::Full),
         },
-        Ordering::Less => Arm::Fork {
+        Ordering::Less => Arm {
             left: Part::Hidden,
             middle: What::Hide,
             right: Part::Walked(Walk::Above(lo)),
         },
-        Ordering::Greater => Arm::Fork {
+        Ordering::Greater => Arm {
             left: Part::Walked(Walk::Above(lo)),
             middle: f,
             right: Part::Walked(Walk::Full),
@@ -165,17 +159,17 @@ fn witness_range_below(s: &[u8], n: usize, hi: KeyBound, f: What) -> Arm
     ensures { λ r. ⌜ r ≡ belowArms hi f (cmp (keyIn (now (s .entry)) n) (keyIn (now (s .entry)) (slotOf hi))) ⌝ }
 {
     match compare_keys(s, n, slot_of(hi)) {
-        Ordering::Equal => Arm::Fork {
+        Ordering::Equal => Arm {
             left: Part::Walked(Walk::Full),
             middle: seen_at(hi, f),
             right: Part::Hidden,
         },
-        Ordering::Greater => Arm::Fork {
+        Ordering::Greater => Arm {
             left: Part::Walked(Walk::Below(hi)),
             middle: What::Hide,
             right: Part::Hidden,
         },
-        Ordering::Less => Arm::Fork {
+        Ordering::Less => Arm {
             left: Part::Walked(Walk::Full),
             middle: f,
             right: Part::Walked(Walk::Below(hi)),
@@ -183,81 +177,60 @@ fn witness_range_below(s: &[u8], n: usize, hi: KeyBound, f: What) -> Arm
     }
 }
 
-// The Rust's arms on (lo.cmp(k), k.cmp(hi)); its wildcards are written out.
+// The Rust's arms on (lo.cmp(k), k.cmp(hi)). `lo` is not above `hi`: so a key below `lo` needs no look at `hi`, and the last arm, for a
+// key below `lo` and above `hi`, is never met (proofs/Never) and is left out.
 fn witness_range_between(s: &[u8], n: usize, lo: KeyBound, hi: KeyBound, f: What) -> Arm
     requires { ⌜ EntryAt (now s) n ⌝ }
     requires { ⌜ EntryAt (now s) (slotOf lo) ⌝ }
     requires { ⌜ EntryAt (now s) (slotOf hi) ⌝ }
     ensures { λ r. ⌜ r ≡ betweenArms lo hi f (cmp (keyIn (now (s .entry)) (slotOf lo)) (keyIn (now (s .entry)) n)) (cmp (keyIn (now (s .entry)) n) (keyIn (now (s .entry)) (slotOf hi))) ⌝ }
 {
-    between(
-        lo,
-        hi,
-        f,
-        compare_keys(s, slot_of(lo), n),
-        compare_keys(s, n, slot_of(hi)),
-    )
-}
-
-fn between(lo: KeyBound, hi: KeyBound, f: What, low: Ordering, high: Ordering) -> Arm
-    ensures { λ r. ⌜ r ≡ betweenArms lo hi f low high ⌝ }
-{
     let go = Part::Walked(Walk::Between(lo, hi));
-    match low {
-        Ordering::Less => match high {
+    match compare_keys(s, slot_of(lo), n) {
+        Ordering::Less => match compare_keys(s, n, slot_of(hi)) {
             // (Less, Less)
-            Ordering::Less => Arm::Fork {
+            Ordering::Less => Arm {
                 left: go,
                 middle: f,
                 right: go,
             },
             // (_, Equal)
-            Ordering::Equal => Arm::Fork {
+            Ordering::Equal => Arm {
                 left: go,
                 middle: seen_at(hi, f),
                 right: Part::Hidden,
             },
             // (Less, Greater)
-            Ordering::Greater => Arm::Fork {
+            Ordering::Greater => Arm {
                 left: go,
                 middle: What::Hide,
                 right: Part::Hidden,
             },
         },
-        Ordering::Equal => match high {
+        Ordering::Equal => match compare_keys(s, n, slot_of(hi)) {
             // (Equal, Equal)
-            Ordering::Equal => Arm::Fork {
+            Ordering::Equal => Arm {
                 left: Part::Hidden,
                 middle: both_seen(lo, hi, f),
                 right: Part::Hidden,
             },
             // (Equal, _)
-            Ordering::Less => Arm::Fork {
+            Ordering::Less => Arm {
                 left: Part::Hidden,
                 middle: seen_at(lo, f),
                 right: go,
             },
-            Ordering::Greater => Arm::Fork {
+            Ordering::Greater => Arm {
                 left: Part::Hidden,
                 middle: seen_at(lo, f),
                 right: go,
             },
         },
-        Ordering::Greater => match high {
-            // (_, Equal)
-            Ordering::Equal => Arm::Fork {
-                left: go,
-                middle: seen_at(hi, f),
-                right: Part::Hidden,
-            },
-            // (Greater, Less)
-            Ordering::Less => Arm::Fork {
-                left: Part::Hidden,
-                middle: What::Hide,
-                right: go,
-            },
-            // _
-            Ordering::Greater => Arm::Pruned,
+        // (Greater, Less)
+        Ordering::Greater => Arm {
+            left: Part::Hidden,
+            middle: What::Hide,
+            right: go,
         },
     }
 }
@@ -269,17 +242,17 @@ fn lookup_and_build_witness(s: &[u8], n: usize, i: usize) -> Arm
     ensures { λ r. ⌜ r ≡ lookupArms i (cmp (keyIn (now (s .entry)) i) (keyIn (now (s .entry)) n)) ⌝ }
 {
     match compare_keys(s, i, n) {
-        Ordering::Equal => Arm::Fork {
+        Ordering::Equal => Arm {
             left: Part::Hidden,
             middle: What::Show,
             right: Part::Hidden,
         },
-        Ordering::Less => Arm::Fork {
+        Ordering::Less => Arm {
             left: Part::Walked(Walk::Lookup(i)),
             middle: What::Hide,
             right: Part::Hidden,
         },
-        Ordering::Greater => Arm::Fork {
+        Ordering::Greater => Arm {
             left: Part::Hidden,
             middle: What::Hide,
             right: Part::Walked(Walk::Lookup(i)),
@@ -307,14 +280,10 @@ pub fn records_at(s: &[u8], n: usize, walk: Walk, f: What) -> Records
     requires { ⌜ BoundsIn (now s) walk ⌝ }
     ensures { λ r. ⌜ r ≡ recordsIn (now (s .entry)) n walk f ⌝ }
 {
-    let Arm::Fork {
-        left,
-        middle,
-        right,
-    } = arm_at(s, n, walk, f)
-    else {
-        return whole();
-    };
+    let arm = arm_at(s, n, walk, f);
+    let left = arm.left;
+    let middle = arm.middle;
+    let right = arm.right;
     let l = kind_of_part(left, slots::left(s, n));
     let m = kind_of_what(middle);
     let r = kind_of_part(right, slots::right(s, n));

@@ -1,10 +1,10 @@
 use mathlib.Core.List.{[]}
 use native.Mathlib.Omega.{arith}
 use borrow.Author.Needs.{needs}
-use Rattle.hash_tree.specs.ParseLaws.{length-piece}
+use Rattle.hash_tree.proofs.ParseLaws.{length-piece}
 use Rattle.llrb.specs.Tree.{left, right}
 use Rattle.store.specs.Decode.{entriesBelow}
-use Rattle.witness.proofs.Putting.{puts-none, puts-empty}
+use Rattle.output.proofs.Putting.{puts-none, puts-empty}
 use Rattle.witness.proofs.Stepping.{parts-in, nil-bytes, hidden-bytes, nothing-at, hidden-at, left-lies, right-lies, less-left, less-right, node-entry, node-middle, falls-to, write-node, room₁, room₂, room₃, room₄, room₅}
 use Prim.Native.Nat.{ℕ, _<_}
 use borrow.Fn.Kinds.{In}
@@ -15,7 +15,7 @@ use Rattle.witness.proofs.+write_tree.Lts-write_tree as write-tree-lts
 use Rattle.slots.proofs.left.Reads as left-reads
 use Rattle.slots.proofs.right.Reads as right-reads
 use Rattle.witness.proofs.put_fork.Reads as put-fork-reads
-use Rattle.witness.proofs.put_head.Reads as put-head-reads
+use Rattle.output.proofs.put_head.Reads as put-head-reads
 use Rattle.witness.proofs.put_hidden.Reads as put-hidden-reads
 use Rattle.witness.proofs.put_middle.Reads as put-middle-reads
 use Rattle.witness_walks.proofs.records_at.Reads as records-at-reads
@@ -36,61 +36,50 @@ write-tree-below t =
 abbrev claims-write-tree : ℕ → write-tree-lts.Claims
 claims-write-tree t = (put-hidden-reads.Asked, put-hidden-reads.Learnt, put-head-reads.Asked, put-head-reads.Learnt, records-at-reads.Asked, records-at-reads.Learnt, put-fork-reads.Asked, put-fork-reads.Learnt, left-reads.Asked, left-reads.Learnt, write-tree-below t, write-tree.Post, put-middle-reads.Asked, put-middle-reads.Learnt, right-reads.Asked, right-reads.Learnt)
 
--- src/lib.rt:210:26
 write-tree-enum-told : (t : ℕ) → write-tree-lts.Need-enum-told (claims-write-tree t) (write-tree-at t) write-tree.Post
 write-tree-enum-told t c =
     search needs
 
--- src/lib.rt:211:42
 write-tree-enum-told-2 : (t : ℕ) → write-tree-lts.Need-enum-told-2 (claims-write-tree t) (write-tree-at t) write-tree.Post
 write-tree-enum-told-2 t c =
     search needs
 
--- src/lib.rt:211:25
 write-tree-put-hidden-requires : (t : ℕ) → write-tree-lts.Need-put-hidden-requires (claims-write-tree t) (write-tree-at t) write-tree.Post
 write-tree-put-hidden-requires t c κs =
     let p = c .before .before .before .before .before .pre .1 in (hidden-at (p .0) (p .1), rw (hidden-bytes (c .before .before .before .before .before .args .f) (p .0) (p .1)) (rw (c .before .enum-told2 .given .1) at (p .3)))
 
--- src/lib.rt:212:22
 write-tree-enum-known-part : (t : ℕ) → write-tree-lts.Need-enum-known-part (claims-write-tree t) (write-tree-at t) write-tree.Post
 write-tree-enum-known-part t c =
     search needs
 
--- src/lib.rt:214:17
 write-tree-put-head-requires : (t : ℕ) → write-tree-lts.Need-put-head-requires (claims-write-tree t) (write-tree-at t) write-tree.Post
 write-tree-put-head-requires t c κs =
     let p = c .before .before .before .before .before .before .before .pre .1 in
     let h = rw (c .before .before .before .part .given .1, nil-bytes (c .before .if1 .taken) (c .before .before .before .part .given .0 .0) (c .before .before .before .before .before .before .before .args .f) (p .0) (p .1)) at (p .3) in
     (omega arith, omega arith, omega (arith, h, length-piece 0 []))
 
--- src/lib.rt:214:17
 write-tree-same-length : (t : ℕ) → write-tree-lts.Need-same-length (claims-write-tree t) (write-tree-at t) write-tree.Post
 write-tree-same-length t c =
     search needs
 
--- src/lib.rt:214:17
 write-tree-returns : (t : ℕ) → write-tree-lts.Need-returns (claims-write-tree t) (write-tree-at t) write-tree.Post
 write-tree-returns t c =
     λ u L. rw (c .before .before .before .before .before .before .part .given .1, nil-bytes (c .before .before .before .before .if1 .taken) (c .before .before .before .before .before .before .part .given .0 .0) (c .before .before .before .before .before .before .before .before .before .before .args .f) u L) (puts-empty (c .before .before .put-head .ensures))
 
--- src/lib.rt:216:17
 write-tree-records-at-requires : (t : ℕ) → write-tree-lts.Need-records-at-requires (claims-write-tree t) (write-tree-at t) write-tree.Post
 write-tree-records-at-requires t c κs =
     let p = c .before .before .before .before .before .before .pre .1 in (node-entry (c .if1 .left) (p .0) (p .1), rw (c .before .before .part .given .1) at (p .2))
 
--- src/lib.rt:220:17
 write-tree-put-fork-requires : (t : ℕ) → write-tree-lts.Need-put-fork-requires (claims-write-tree t) (write-tree-at t) write-tree.Post
 write-tree-put-fork-requires t c κs =
     let p = c .before .before .before .before .before .before .before .before .pre .1 in
     let h = rw (c .before .before .before .before .part .given .1) at (p .3) in
     room₁ (c .before .before .if1 .left) (c .before .before .before .before .part .given .0 .0) (c .before .before .before .before .before .before .before .before .args .f) (c .before .records-at .result) (c .before .records-at .ensures) (p .0) (p .1) (c .before .before .before .before .before .before .before .before .args .out .now) (c .before .before .before .before .before .before .before .before .args .at) h
 
--- src/lib.rt:221:35
 write-tree-left-requires : (t : ℕ) → write-tree-lts.Need-left-requires (claims-write-tree t) (write-tree-at t) write-tree.Post
 write-tree-left-requires t c κs =
     let p = c .before .before .before .before .before .before .before .before .before .before .before .pre .1 in node-entry (c .before .before .before .before .before .if1 .left) (p .0) (p .1) .inside
 
--- src/lib.rt:221:17
 write-tree-write-tree-requires : (t : ℕ) → write-tree-lts.Need-write-tree-requires (claims-write-tree t) (write-tree-at t) write-tree.Post
 write-tree-write-tree-requires t c κs =
     let p = c .before .before .before .before .before .before .before .before .before .before .before .before .before .pre .1 in
@@ -107,7 +96,6 @@ write-tree-write-tree-requires t c κs =
       ),
     )
 
--- src/lib.rt:222:17
 write-tree-put-fork-requires-2 : (t : ℕ) → write-tree-lts.Need-put-fork-requires-2 (claims-write-tree t) (write-tree-at t) write-tree.Post
 write-tree-put-fork-requires-2 t c κs =
     let p = c .before .before .before .before .before .before .before .before .before .before .before .before .before .before .before .before .before .pre .1 in
@@ -115,7 +103,6 @@ write-tree-put-fork-requires-2 t c κs =
     let h = rw (c .before .before .before .before .before .before .before .before .before .before .before .before .before .part .given .1) at (p .3) in
     room₃ ne (c .before .before .before .before .before .before .before .before .before .before .before .before .before .part .given .0 .0) (c .before .before .before .before .before .before .before .before .before .before .before .before .before .before .before .before .before .args .f) (c .before .before .before .before .before .before .before .before .before .before .records-at .result) (c .before .before .before .before .before .before .before .before .before .before .records-at .ensures) (p .0) (p .1) (c .before .before .before .before .before .before .before .before .before .before .before .before .before .before .before .before .before .args .out .now) (c .before .before .before .before .before .before .before .before .before .before .before .before .before .before .before .before .before .args .at) h (c .before .before .before .before .before .before .before .before .put-fork .ensures) (c .before .before .before .write-tree .ensures (left (p .0)) (left-lies ne (p .0) (p .1) (c .before .before .before .before .before .left .ensures)))
 
--- src/lib.rt:223:17
 write-tree-put-middle-requires : (t : ℕ) → write-tree-lts.Need-put-middle-requires (claims-write-tree t) (write-tree-at t) write-tree.Post
 write-tree-put-middle-requires t c κs =
     let p = c .before .before .before .before .before .before .before .before .before .before .before .before .before .before .before .before .before .before .before .before .before .pre .1 in
@@ -128,12 +115,10 @@ write-tree-put-middle-requires t c κs =
       ),
     )
 
--- src/lib.rt:224:27
 write-tree-right-requires : (t : ℕ) → write-tree-lts.Need-right-requires (claims-write-tree t) (write-tree-at t) write-tree.Post
 write-tree-right-requires t c κs =
     let p = c .before .before .before .before .before .before .before .before .before .before .before .before .before .before .before .before .before .before .before .before .before .before .before .before .pre .1 in node-entry (c .before .before .before .before .before .before .before .before .before .before .before .before .before .before .before .before .before .before .if1 .left) (p .0) (p .1) .inside
 
--- src/lib.rt:224:13
 write-tree-write-tree-requires-2 : (t : ℕ) → write-tree-lts.Need-write-tree-requires-2 (claims-write-tree t) (write-tree-at t) write-tree.Post
 write-tree-write-tree-requires-2 t c κs =
     let p = c .before .before .before .before .before .before .before .before .before .before .before .before .before .before .before .before .before .before .before .before .before .before .before .before .before .before .pre .1 in
@@ -150,27 +135,22 @@ write-tree-write-tree-requires-2 t c κs =
       ),
     )
 
--- src/lib.rt:205:1
 write-tree-returns-2 : (t : ℕ) → write-tree-lts.Need-returns-2 (claims-write-tree t) (write-tree-at t) write-tree.Post
 write-tree-returns-2 t c =
     λ u L. rw (c .enum-told .given .1, nothing-at (c .before .before .before .before .args .s .now) (c .before .before .before .before .args .f) u) (puts-none (c .before .before .before .before .args .out .now) (c .before .before .before .before .args .at))
 
--- src/lib.rt:205:1
 write-tree-same-length-2 : (t : ℕ) → write-tree-lts.Need-same-length-2 (claims-write-tree t) (write-tree-at t) write-tree.Post
 write-tree-same-length-2 t c =
     search needs
 
--- src/lib.rt:205:1
 write-tree-returns-3 : (t : ℕ) → write-tree-lts.Need-returns-3 (claims-write-tree t) (write-tree-at t) write-tree.Post
 write-tree-returns-3 t c =
     λ u L. rw (c .before .before .before .before .enum-told2 .given .1, ← (hidden-bytes (c .before .before .before .before .before .before .before .before .args .f) u L)) (c .before .before .put-hidden .ensures)
 
--- src/lib.rt:205:1
 write-tree-same-length-3 : (t : ℕ) → write-tree-lts.Need-same-length-3 (claims-write-tree t) (write-tree-at t) write-tree.Post
 write-tree-same-length-3 t c =
     search needs
 
--- src/lib.rt:205:1
 write-tree-returns-4 : (t : ℕ) → write-tree-lts.Need-returns-4 (claims-write-tree t) (write-tree-at t) write-tree.Post
 write-tree-returns-4 t c =
     λ u L.

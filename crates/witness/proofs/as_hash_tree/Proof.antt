@@ -9,20 +9,16 @@ use Rattle.witness.proofs.as_hash_tree.Lts as lts
 use Rattle.slots.proofs.header_of.Reads as header-of-reads
 use Rattle.witness.proofs.save.Reads as save-reads
 
--- src/lib.rt:282:16
 header-of-requires : tie.Need-header-of-requires
 header-of-requires c κs = search needs
 
--- src/lib.rt:283:5
 save-requires : tie.Need-save-requires
 save-requires c κs =
     can-full (c .before .before .before .before .pre) (ap (λ (h : Header). h .root) (c .before .header-of .ensures))
 
--- src/lib.rt:278:1
 same-length : tie.Need-same-length
 same-length c = search needs
 
--- src/lib.rt:278:1
 returns : tie.Need-returns
 returns c =
     as-hash-tree-answer (c .before .before .before .before .before .before .before .pre) (ap (λ (h : Header). h .root) (c .before .before .before .before .header-of .ensures)) (c .before .before .before .before .before .before .before .args .out .now) (c .before .before .save .ensures)

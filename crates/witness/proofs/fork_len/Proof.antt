@@ -5,13 +5,11 @@ use Rattle.witness.proofs.fork_len.Tie as tie
 use Rattle.witness.proofs.fork_len.Reads as reads
 use Rattle.witness.proofs.fork_len.Lts as lts
 
--- src/lib.rt:328:1
 returns : tie.Need-returns
 unfolding piece
 returns c =
     rw (c .if1 .taken)
 
--- src/lib.rt:328:1
 returns-2 : tie.Need-returns-2
 returns-2 c = search needs
 

@@ -4,12 +4,10 @@ use Rattle.witness.proofs.hidden_len.Tie as tie
 use Rattle.witness.proofs.hidden_len.Reads as reads
 use Rattle.witness.proofs.hidden_len.Lts as lts
 
--- src/lib.rt:567:1
 returns : tie.Need-returns
 returns c =
     rw (c .if1 .taken)
 
--- src/lib.rt:567:1
 returns-2 : tie.Need-returns-2
 returns-2 c =
     rw (ne-eqb _ _ (c .if1 .left))

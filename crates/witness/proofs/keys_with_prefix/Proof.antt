@@ -12,30 +12,24 @@ use Rattle.search.proofs.right_prefix_neighbor.Reads as right-prefix-neighbor-r
 use Rattle.slots.proofs.header_of.Reads as header-of-reads
 use Rattle.witness.proofs.range_witness.Reads as range-witness-reads
 
--- src/lib.rt:321:16
 header-of-requires : tie.Need-header-of-requires
 header-of-requires c κs = search needs
 
--- src/lib.rt:322:9
 lower-bound-requires : tie.Need-lower-bound-requires
 lower-bound-requires c κs =
     root-in (c .before .before .before .before .pre .0) (ap (λ (h : Header). h .root) (c .header-of .ensures))
 
--- src/lib.rt:323:9
 right-prefix-neighbor-requires : tie.Need-right-prefix-neighbor-requires
 right-prefix-neighbor-requires c κs =
     root-in (c .before .before .before .before .before .pre .0) (ap (λ (h : Header). h .root) (c .before .header-of .ensures))
 
--- src/lib.rt:324:5
 range-witness-requires : tie.Need-range-witness-requires
 range-witness-requires c κs =
     let p = c .before .before .before .before .before .before .before .pre .0 in let e = (ap (λ (h : Header). h .root) (c .before .before .before .header-of .ensures)) in can-range p e (c .before .before .lower-bound .result) (c .before .right-prefix-neighbor .result) (low-in p e (c .before .before .before .before .before .before .before .args .prefix .now) (c .before .before .lower-bound .ensures)) (past-in p e (c .before .before .before .before .before .before .before .args .prefix .now) (c .before .right-prefix-neighbor .ensures))
 
--- src/lib.rt:316:1
 same-length : tie.Need-same-length
 same-length c = search needs
 
--- src/lib.rt:316:1
 returns : tie.Need-returns
 returns c =
     prefix-answer (c .before .before .before .before .before .before .before .before .before .before .pre .0) (ap (λ (h : Header). h .root) (c .before .before .before .before .before .before .header-of .ensures)) (c .before .before .before .before .before .before .before .before .before .before .args .out .now) (c .before .before .before .before .before .before .before .before .before .before .args .prefix .now) (c .before .before .before .before .before .lower-bound .ensures) (c .before .before .before .before .right-prefix-neighbor .ensures) (c .before .before .before .before .before .before .before .before .before .before .pre .1) (c .before .before .range-witness .ensures)

@@ -1,30 +1,26 @@
 use native.Mathlib.Omega.{arith}
 use Rattle.hash_tree.specs.Written.{piece}
-use Rattle.witness.proofs.Putting.{puts-none}
+use Rattle.output.proofs.Putting.{puts-none}
 use borrow.Author.Needs.{needs}
 use Rattle.witness.proofs.put_fork.Statement.{statement}
 use Rattle.witness.proofs.put_fork.Tie as tie
 use Rattle.witness.proofs.put_fork.Reads as reads
 use Rattle.witness.proofs.put_fork.Lts as lts
-use Rattle.witness.proofs.put_head.Reads as put-head-reads
+use Rattle.output.proofs.put_head.Reads as put-head-reads
 
--- src/lib.rt:323:9
 put-head-requires : tie.Need-put-head-requires
 unfolding piece
 put-head-requires c κs =
     let h = rw (c .before .if1 .taken) at (c .before .before .before .pre) in omega (arith, h)
 
--- src/lib.rt:323:9
 same-length : tie.Need-same-length
 same-length c = search needs
 
--- src/lib.rt:323:9
 returns : tie.Need-returns
 unfolding piece
 returns c =
     rw (c .before .before .before .before .if1 .taken) (c .before .before .put-head .ensures)
 
--- src/lib.rt:318:1
 returns-2 : tie.Need-returns-2
 returns-2 c =
     rw (c .if1 .left) (puts-none (c .before .before .args .out .now) (c .before .before .args .at))

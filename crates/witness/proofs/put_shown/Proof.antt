@@ -2,9 +2,9 @@ use native.Mathlib.Omega.{arith}
 use Rattle.slots.specs.Layout.{slot, keyOf, valueOf}
 use Rattle.hash_tree.specs.HashTree.{leafHash}
 use Rattle.hash_tree.specs.Written.{piece}
-use Rattle.hash_tree.specs.DigestLaws.{leafHash-length}
+use Rattle.hash_tree.proofs.DigestLaws.{leafHash-length}
 use Rattle.witness.proofs.Lengths.{key-short, value-short, hide-bytes, label-bytes, show-bytes, data-length}
-use Rattle.witness.proofs.Putting.{puts-then}
+use Rattle.output.proofs.Putting.{puts-then}
 use Rattle.witness.proofs.Stepping.{front, rest}
 use borrow.Author.Needs.{needs}
 use Rattle.witness.proofs.put_shown.Statement.{statement}
@@ -15,55 +15,44 @@ use Rattle.hash_tree.proofs.leaf_hash.Reads as leaf-hash-reads
 use Rattle.slots.proofs.key.Reads as key-reads
 use Rattle.slots.proofs.value.Reads as value-reads
 use Rattle.witness.proofs.data_hash.Reads as data-hash-reads
-use Rattle.witness.proofs.put_piece.Reads as put-piece-reads
+use Rattle.output.proofs.put_piece.Reads as put-piece-reads
 
--- src/lib.rt:581:21
 enum-told : tie.Need-enum-told
 enum-told c = search needs
 
--- src/lib.rt:581:21
 data-hash-requires : tie.Need-data-hash-requires
 data-hash-requires c κs = search needs
 
--- src/lib.rt:582:40
 slice-aggregate-put-piece : tie.Need-slice-aggregate-put-piece
 slice-aggregate-put-piece c = search needs
 
--- src/lib.rt:582:13
 put-piece-requires : tie.Need-put-piece-requires
 put-piece-requires c κs =
     let s = c .before .before .before .before .before .before .before .args .s .now in let n = c .before .before .before .before .before .before .before .args .n in
     let h = rw (c .before .before .before .enum-told .given .1, hide-bytes s n) at (c .before .before .before .before .before .before .before .pre .1) in
     rw (c .before .before .data-hash .ensures) (omega arith, omega (arith, data-length s n), h)
 
--- src/lib.rt:585:31
 enum-told-2 : tie.Need-enum-told-2
 enum-told-2 c = search needs
 
--- src/lib.rt:585:49
 key-requires : tie.Need-key-requires
 key-requires c κs = search needs
 
--- src/lib.rt:585:17
 put-piece-requires-2 : tie.Need-put-piece-requires-2
 put-piece-requires-2 c κs =
     let s = c .before .before .before .before .before .before .args .s .now in let n = c .before .before .before .before .before .before .args .n in
     let h = rw (c .before .before .enum-told2 .given .1, label-bytes s n) at (c .before .before .before .before .before .before .pre .1) in
     rw (c .key .ensures) (omega arith, omega (arith, key-short s n (c .before .before .before .before .before .before .pre .0)), front _ _ (piece 2 (keyOf (slot s n))) (piece 4 (leafHash (valueOf (slot s n)))) h)
 
--- src/lib.rt:586:31
 value-requires : tie.Need-value-requires
 value-requires c κs = search needs
 
--- src/lib.rt:586:21
 leaf-hash-requires : tie.Need-leaf-hash-requires
 leaf-hash-requires c κs = search needs
 
--- src/lib.rt:587:39
 slice-aggregate-put-piece-2 : tie.Need-slice-aggregate-put-piece-2
 slice-aggregate-put-piece-2 c = search needs
 
--- src/lib.rt:587:13
 put-piece-requires-3 : tie.Need-put-piece-requires-3
 put-piece-requires-3 c κs =
     let s = c .before .before .before .before .before .before .before .before .before .before .before .before .before .args .s .now in let n = c .before .before .before .before .before .before .before .before .before .before .before .before .before .args .n in
@@ -71,26 +60,21 @@ put-piece-requires-3 c κs =
     let p = rw (c .before .before .before .before .before .before .before .key .ensures) at (c .before .before .before .before .before .before .put-piece2 .ensures) in
     rw (c .before .before .leaf-hash .ensures, c .before .before .before .value .ensures) (omega arith, omega (arith, leafHash-length (valueOf (slot s n))), rest (piece 2 (keyOf (slot s n))) (piece 4 (leafHash (valueOf (slot s n)))) p h)
 
--- src/lib.rt:590:31
 enum-told-3 : tie.Need-enum-told-3
 enum-told-3 c = search needs
 
--- src/lib.rt:590:49
 key-requires-2 : tie.Need-key-requires-2
 key-requires-2 c κs = search needs
 
--- src/lib.rt:590:17
 put-piece-requires-4 : tie.Need-put-piece-requires-4
 put-piece-requires-4 c κs =
     let s = c .before .before .before .before .before .before .args .s .now in let n = c .before .before .before .before .before .before .args .n in
     let h = rw (c .before .before .enum-told3 .given .1, show-bytes s n) at (c .before .before .before .before .before .before .pre .1) in
     rw (c .key2 .ensures) (omega arith, omega (arith, key-short s n (c .before .before .before .before .before .before .pre .0)), front _ _ (piece 2 (keyOf (slot s n))) (piece 3 (valueOf (slot s n))) h)
 
--- src/lib.rt:591:37
 value-requires-2 : tie.Need-value-requires-2
 value-requires-2 c κs = search needs
 
--- src/lib.rt:591:13
 put-piece-requires-5 : tie.Need-put-piece-requires-5
 put-piece-requires-5 c κs =
     let s = c .before .before .before .before .before .before .before .before .before .before .before .args .s .now in let n = c .before .before .before .before .before .before .before .before .before .before .before .args .n in
@@ -98,31 +82,25 @@ put-piece-requires-5 c κs =
     let p = rw (c .before .before .before .before .before .key2 .ensures) at (c .before .before .before .before .put-piece4 .ensures) in
     rw (c .value2 .ensures) (omega arith, omega (arith, value-short s n (c .before .before .before .before .before .before .before .before .before .before .before .pre .0)), rest (piece 2 (keyOf (slot s n))) (piece 3 (valueOf (slot s n))) p h)
 
--- src/lib.rt:574:1
 same-length : tie.Need-same-length
 same-length c = search needs
 
--- src/lib.rt:574:1
 returns : tie.Need-returns
 returns c =
     let s = c .before .before .before .before .before .before .before .before .before .before .args .s .now in let n = c .before .before .before .before .before .before .before .before .before .before .args .n in
     rw (c .before .before .before .before .before .before .enum-told .given .1, hide-bytes s n) (rw (c .before .before .before .before .before .data-hash .ensures) at (c .before .before .put-piece .ensures))
 
--- src/lib.rt:574:1
 same-length-2 : tie.Need-same-length-2
 same-length-2 c = search needs
 
--- src/lib.rt:574:1
 returns-2 : tie.Need-returns-2
 returns-2 c =
     let s = c .before .before .before .before .before .before .before .before .before .before .before .before .before .before .before .before .args .s .now in let n = c .before .before .before .before .before .before .before .before .before .before .before .before .before .before .before .before .args .n in
     rw (c .before .before .before .before .before .before .before .before .before .before .before .before .enum-told2 .given .1, label-bytes s n) (puts-then (rw (c .before .before .before .before .before .before .before .before .before .before .key .ensures) at (c .before .before .before .before .before .before .before .before .before .put-piece2 .ensures)) (rw (c .before .before .before .before .before .leaf-hash .ensures, c .before .before .before .before .before .before .value .ensures) at (c .before .before .put-piece3 .ensures)))
 
--- src/lib.rt:574:1
 same-length-3 : tie.Need-same-length-3
 same-length-3 c = search needs
 
--- src/lib.rt:574:1
 returns-3 : tie.Need-returns-3
 returns-3 c =
     let s = c .before .before .before .before .before .before .before .before .before .before .before .before .before .before .args .s .now in let n = c .before .before .before .before .before .before .before .before .before .before .before .before .before .before .args .n in

@@ -7,20 +7,16 @@ use Rattle.witness.proofs.range_witness.Lts as lts
 use Rattle.witness.proofs.range_walk.Reads as range-walk-reads
 use Rattle.witness.proofs.save.Reads as save-reads
 
--- src/lib.rt:275:19
 range-walk-requires : tie.Need-range-walk-requires
 range-walk-requires c κs = search needs
 
--- src/lib.rt:275:5
 save-requires : tie.Need-save-requires
 save-requires c κs =
     let p = c .before .before .before .before .pre in rw (c .before .range-walk .ensures) (p .0, p .1, bounds-in (c .before .before .before .before .args .s .now) (c .before .before .before .before .args .left) (c .before .before .before .before .args .right) (p .2) (p .3))
 
--- src/lib.rt:271:1
 same-length : tie.Need-same-length
 same-length c = search needs
 
--- src/lib.rt:271:1
 returns : tie.Need-returns
 returns c =
     rw (c .before .before .before .before .range-walk .ensures) at (c .before .before .save .ensures)

@@ -3,7 +3,7 @@ use native.Mathlib.Omega.{arith}
 use lib.ListN.{length}
 use Rattle.witness_walks.specs.declared.Part.the-variants.{Walked}
 use Rattle.witness.specs.Putting.{bytesBelow}
-use Rattle.witness.proofs.Putting.{room-left, room-short}
+use Rattle.output.proofs.Putting.{room-left, room-short}
 use Rattle.witness.proofs.Saving.{front-short, front-put}
 use borrow.Author.Needs.{needs}
 use Rattle.witness.proofs.save.Statement.{statement}
@@ -13,18 +13,15 @@ use Rattle.witness.proofs.save.Lts as lts
 use Rattle.witness.proofs.fit.Reads as fit-reads
 use Rattle.witness.proofs.write_tree.Reads as write-tree-reads
 
--- src/lib.rt:249:25
 fit-requires : tie.Need-fit-requires
 fit-requires c κs = search needs
 
 enum-told : tie.Need-enum-told
 enum-told c = search needs
 
--- src/lib.rt:250:9
 enum-told-2 : tie.Need-enum-told-2
 enum-told-2 c = search needs
 
--- src/lib.rt:250:9
 returns : tie.Need-returns
 returns c =
     λ t L.
@@ -32,7 +29,6 @@ returns c =
     let w = bytesBelow (c .before .before .before .before .before .args .s .now) (c .before .before .before .before .before .args .f) (Walked (c .before .before .before .before .before .args .walk)) t in
     front-short o w (room-short (length w) (length o) (sym (c .before .before .fit .ensures t L) ∙ c .enum-told2 .given .1))
 
--- src/lib.rt:252:9
 write-tree-requires : tie.Need-write-tree-requires
 write-tree-requires c κs =
     let p = c .before .before .before .before .before .before .pre in
@@ -41,11 +37,9 @@ write-tree-requires c κs =
     let h = room-left (length w) (length o) (c .before .enum-told .given .0 .0) (sym (c .before .before .before .fit .ensures (p .0) (p .1)) ∙ c .before .enum-told .given .1) in
     (p .0, p .1, p .2, omega (arith, h))
 
--- src/lib.rt:245:1
 same-length : tie.Need-same-length
 same-length c = search needs
 
--- src/lib.rt:245:1
 returns-2 : tie.Need-returns-2
 returns-2 c =
     λ t L.

@@ -10,54 +10,42 @@ use Rattle.witness.proofs.shown_len.Lts as lts
 use Rattle.slots.proofs.key.Reads as key-reads
 use Rattle.slots.proofs.value.Reads as value-reads
 
--- src/lib.rt:601:23
 enum-told : tie.Need-enum-told
 enum-told c = search needs
 
--- src/lib.rt:602:29
 enum-told-2 : tie.Need-enum-told-2
 enum-told-2 c = search needs
 
--- src/lib.rt:602:29
 key-requires : tie.Need-key-requires
 key-requires c κs = search needs
 
--- src/lib.rt:602:24
 add-result : tie.Need-add-result
 add-result c = search needs
 
--- src/lib.rt:603:27
 enum-told-3 : tie.Need-enum-told-3
 enum-told-3 c = search needs
 
--- src/lib.rt:603:27
 key-requires-2 : tie.Need-key-requires-2
 key-requires-2 c κs = search needs
 
--- src/lib.rt:603:23
 add-result-2 : tie.Need-add-result-2
 add-result-2 c = search needs
 
--- src/lib.rt:603:45
 value-requires : tie.Need-value-requires
 value-requires c κs = search needs
 
--- src/lib.rt:603:23
 add-result-3 : tie.Need-add-result-3
 add-result-3 c =
     omega (arith, ap length (c .before .key2 .ensures), ap length (c .value .ensures), key-short (c .before .before .before .before .before .args .s .now) (c .before .before .before .before .before .args .n) (c .before .before .before .before .before .pre), value-short (c .before .before .before .before .before .args .s .now) (c .before .before .before .before .before .args .n) (c .before .before .before .before .before .pre))
 
--- src/lib.rt:596:1
 returns : tie.Need-returns
 returns c =
     rw (c .enum-told .given .1) (hide-length (c .before .before .before .args .s .now) (c .before .before .before .args .n), omega arith)
 
--- src/lib.rt:596:1
 returns-2 : tie.Need-returns-2
 returns-2 c =
     rw (c .before .enum-told2 .given .1, c .key .ensures) (label-length (c .before .before .before .before .args .s .now) (c .before .before .before .before .args .n), omega (arith, key-short (c .before .before .before .before .args .s .now) (c .before .before .before .before .args .n) (c .before .before .before .before .pre)))
 
--- src/lib.rt:596:1
 returns-3 : tie.Need-returns-3
 returns-3 c =
     rw (c .before .before .enum-told3 .given .1, c .before .key2 .ensures, c .value .ensures) (show-length (c .before .before .before .before .before .args .s .now) (c .before .before .before .before .before .args .n), omega (arith, key-short (c .before .before .before .before .before .args .s .now) (c .before .before .before .before .before .args .n) (c .before .before .before .before .before .pre), value-short (c .before .before .before .before .before .args .s .now) (c .before .before .before .before .before .args .n) (c .before .before .before .before .before .pre)))

@@ -12,30 +12,24 @@ use Rattle.search.proofs.upper_bound.Reads as upper-bound-reads
 use Rattle.slots.proofs.header_of.Reads as header-of-reads
 use Rattle.witness.proofs.range_witness.Reads as range-witness-reads
 
--- src/lib.rt:310:16
 header-of-requires : tie.Need-header-of-requires
 header-of-requires c κs = search needs
 
--- src/lib.rt:311:9
 lower-bound-requires : tie.Need-lower-bound-requires
 lower-bound-requires c κs =
     root-in (c .before .before .before .before .before .pre .0) (ap (λ (h : Header). h .root) (c .header-of .ensures))
 
--- src/lib.rt:312:9
 upper-bound-requires : tie.Need-upper-bound-requires
 upper-bound-requires c κs =
     root-in (c .before .before .before .before .before .before .pre .0) (ap (λ (h : Header). h .root) (c .before .header-of .ensures))
 
--- src/lib.rt:313:5
 range-witness-requires : tie.Need-range-witness-requires
 range-witness-requires c κs =
     let p = c .before .before .before .before .before .before .before .before .pre .0 in let e = (ap (λ (h : Header). h .root) (c .before .before .before .header-of .ensures)) in can-range p e (c .before .before .lower-bound .result) (c .before .upper-bound .result) (low-in p e (c .before .before .before .before .before .before .before .before .args .first .now) (c .before .before .lower-bound .ensures)) (high-in p e (c .before .before .before .before .before .before .before .before .args .last .now) (c .before .upper-bound .ensures))
 
--- src/lib.rt:305:1
 same-length : tie.Need-same-length
 same-length c = search needs
 
--- src/lib.rt:305:1
 returns : tie.Need-returns
 returns c =
     let q = c .before .before .before .before .before .before .before .before .before .before .before .pre .1 in value-range-answer (c .before .before .before .before .before .before .before .before .before .before .before .pre .0) (ap (λ (h : Header). h .root) (c .before .before .before .before .before .before .header-of .ensures)) (c .before .before .before .before .before .before .before .before .before .before .before .args .out .now) (c .before .before .before .before .before .before .before .before .before .before .before .args .first .now) (c .before .before .before .before .before .before .before .before .before .before .before .args .last .now) (c .before .before .before .before .before .lower-bound .ensures) (c .before .before .before .before .upper-bound .ensures) (q .0) (q .1) (q .2) (c .before .before .range-witness .ensures)

@@ -14,59 +14,47 @@ use Rattle.slots.proofs.header_of.Reads as header-of-reads
 use Rattle.witness.proofs.range_witness.Reads as range-witness-reads
 use Rattle.witness.proofs.save.Reads as save-reads
 
--- src/lib.rt:333:16
 header-of-requires : tie.Need-header-of-requires
 header-of-requires c κs = search needs
 
--- src/lib.rt:334:24
 get-requires : tie.Need-get-requires
 get-requires c κs =
     root-in (c .before .before .before .before .pre .0) (ap (λ (h : Header). h .root) (c .header-of .ensures))
 
--- src/lib.rt:334:19
 enum-known-i : tie.Need-enum-known-i
 enum-known-i c = search needs
 
--- src/lib.rt:335:13
 enum-told : tie.Need-enum-told
 enum-told c = search needs
 
--- src/lib.rt:335:13
 lower-bound-requires : tie.Need-lower-bound-requires
 lower-bound-requires c κs =
     root-in (c .before .before .before .before .before .before .before .pre .0) (ap (λ (h : Header). h .root) (c .before .before .before .header-of .ensures))
 
--- src/lib.rt:336:13
 upper-bound-requires : tie.Need-upper-bound-requires
 upper-bound-requires c κs =
     root-in (c .before .before .before .before .before .before .before .before .pre .0) (ap (λ (h : Header). h .root) (c .before .before .before .before .header-of .ensures))
 
--- src/lib.rt:337:9
 range-witness-requires : tie.Need-range-witness-requires
 range-witness-requires c κs =
     let p = c .before .before .before .before .before .before .before .before .before .before .pre .0 in let e = (ap (λ (h : Header). h .root) (c .before .before .before .before .before .before .header-of .ensures)) in can-range p e (c .before .before .lower-bound .result) (c .before .upper-bound .result) (low-in p e (c .before .before .before .before .before .before .before .before .before .before .args .key .now) (c .before .before .lower-bound .ensures)) (high-in p e (c .before .before .before .before .before .before .before .before .before .before .args .key .now) (c .before .upper-bound .ensures))
 
--- src/lib.rt:337:9
 same-length : tie.Need-same-length
 same-length c = search needs
 
--- src/lib.rt:337:9
 returns : tie.Need-returns
 returns c =
     let p = c .before .before .before .before .before .before .before .before .before .before .before .before .before .pre .0 in let e = (ap (λ (h : Header). h .root) (c .before .before .before .before .before .before .before .before .before .header-of .ensures)) in
     absent-answer p e (c .before .before .before .before .before .before .before .before .before .before .before .before .before .args .out .now) (c .before .before .before .before .before .before .before .before .before .before .before .before .before .args .key .now) (sym (c .before .before .before .before .before .before .before .before .get .ensures (p .0 .tree) (at-hand p e .lies)) ∙ c .before .before .before .before .before .before .enum-told .given .1) (c .before .before .before .before .before .lower-bound .ensures) (c .before .before .before .before .upper-bound .ensures) (c .before .before .before .before .before .before .before .before .before .before .before .before .before .pre .1) (c .before .before .range-witness .ensures)
 
--- src/lib.rt:339:5
 save-requires : tie.Need-save-requires
 save-requires c κs =
     let p = c .before .before .before .before .before .before .before .before .before .pre .0 in let e = (ap (λ (h : Header). h .root) (c .before .before .before .before .before .header-of .ensures)) in
     can-lookup p e (c .before .before .before .before .before .before .before .before .before .args .key .now) (c .before .before .i .given .0 .0) (sym (c .before .before .before .before .get .ensures (p .0 .tree) (at-hand p e .lies)) ∙ c .before .before .i .given .1)
 
--- src/lib.rt:328:1
 same-length-2 : tie.Need-same-length-2
 same-length-2 c = search needs
 
--- src/lib.rt:328:1
 returns-2 : tie.Need-returns-2
 returns-2 c =
     let p = c .before .before .before .before .before .before .before .before .before .before .before .before .pre .0 in let e = (ap (λ (h : Header). h .root) (c .before .before .before .before .before .before .before .before .header-of .ensures)) in

@@ -6,23 +6,18 @@ use Rattle.witness_walks.proofs.both_seen.Reads as reads
 use Rattle.witness_walks.proofs.both_seen.Lts as lts
 use Rattle.witness_walks.proofs.seen_at.Reads as seen-at-reads
 
--- src/lib.rt:263:31
 enum-told : tie.Need-enum-told
 enum-told c = search needs
 
--- src/lib.rt:264:34
 enum-told-2 : tie.Need-enum-told-2
 enum-told-2 c = search needs
 
--- src/lib.rt:264:34
 seen-at-requires : tie.Need-seen-at-requires
 seen-at-requires c κs = search needs
 
--- src/lib.rt:259:1
 returns : tie.Need-returns
 returns c = search needs
 
--- src/lib.rt:259:1
 returns-2 : tie.Need-returns-2
 returns-2 c =
     c .seen-at .ensures ∙ rw (c .before .enum-told2 .given .1)

@@ -6,33 +6,26 @@ use Rattle.witness_walks.proofs.lookup_and_build_witness.Reads as reads
 use Rattle.witness_walks.proofs.lookup_and_build_witness.Lts as lts
 use Rattle.witness_walks.proofs.compare_keys.Reads as compare-keys-reads
 
--- src/lib.rt:493:11
 compare-keys-requires : tie.Need-compare-keys-requires
 compare-keys-requires c κs = search needs
 
--- src/lib.rt:495:19
 enum-told : tie.Need-enum-told
 enum-told c = search needs
 
--- src/lib.rt:500:32
 enum-told-2 : tie.Need-enum-told-2
 enum-told-2 c = search needs
 
--- src/lib.rt:505:19
 enum-told-3 : tie.Need-enum-told-3
 enum-told-3 c = search needs
 
--- src/lib.rt:488:1
 returns : tie.Need-returns
 returns c =
     let e = sym (c .before .before .compare-keys .ensures) ∙ c .enum-told .given .1 in rw e
 
--- src/lib.rt:488:1
 returns-2 : tie.Need-returns-2
 returns-2 c =
     let e = sym (c .before .before .compare-keys .ensures) ∙ c .enum-told2 .given .1 in rw e
 
--- src/lib.rt:488:1
 returns-3 : tie.Need-returns-3
 returns-3 c =
     let e = sym (c .before .before .compare-keys .ensures) ∙ c .enum-told3 .given .1 in rw e

@@ -8,42 +8,33 @@ use Rattle.witness_walks.proofs.compare_keys.Reads as compare-keys-read
 use Rattle.witness_walks.proofs.seen_at.Reads as seen-at-reads
 use Rattle.witness_walks.proofs.slot_of.Reads as slot-of-reads
 
--- src/lib.rt:365:30
 slot-of-requires : tie.Need-slot-of-requires
 slot-of-requires c κs = search needs
 
--- src/lib.rt:365:11
 compare-keys-requires : tie.Need-compare-keys-requires
 compare-keys-requires c κs =
     (c .before .before .pre .0, rw (c .slot-of .ensures) (c .before .before .pre .1))
 
--- src/lib.rt:367:19
 enum-told : tie.Need-enum-told
 enum-told c = search needs
 
--- src/lib.rt:368:21
 seen-at-requires : tie.Need-seen-at-requires
 seen-at-requires c κs = search needs
 
--- src/lib.rt:372:19
 enum-told-2 : tie.Need-enum-told-2
 enum-told-2 c = search needs
 
--- src/lib.rt:377:32
 enum-told-3 : tie.Need-enum-told-3
 enum-told-3 c = search needs
 
--- src/lib.rt:360:1
 returns : tie.Need-returns
 returns c =
     let e = sym (rw (c .before .before .before .before .slot-of .ensures) at (c .before .before .before .compare-keys .ensures)) ∙ c .before .enum-told .given .1 in rw (e, c .seen-at .ensures)
 
--- src/lib.rt:360:1
 returns-2 : tie.Need-returns-2
 returns-2 c =
     let e = sym (rw (c .before .before .before .slot-of .ensures) at (c .before .before .compare-keys .ensures)) ∙ c .enum-told2 .given .1 in rw e
 
--- src/lib.rt:360:1
 returns-3 : tie.Need-returns-3
 returns-3 c =
     let e = sym (rw (c .before .before .before .slot-of .ensures) at (c .before .before .compare-keys .ensures)) ∙ c .enum-told3 .given .1 in rw e

@@ -5,34 +5,27 @@ use Rattle.witness_walks.proofs.fork.kind_of_part.Tie as tie
 use Rattle.witness_walks.proofs.fork.kind_of_part.Reads as reads
 use Rattle.witness_walks.proofs.fork.kind_of_part.Lts as lts
 
--- src/lib.rt:160:9
 returns : tie.Need-returns
 returns c =
     rw (c .if1 .taken)
 
--- src/lib.rt:163:26
 enum-told : tie.Need-enum-told
 enum-told c = search needs
 
--- src/lib.rt:164:25
 enum-told-2 : tie.Need-enum-told-2
 enum-told-2 c = search needs
 
--- src/lib.rt:165:28
 enum-told-3 : tie.Need-enum-told-3
 enum-told-3 c = search needs
 
--- src/lib.rt:156:1
 returns-2 : tie.Need-returns-2
 returns-2 c =
     rw (ne-eqb _ _ (c .before .before .if1 .left), c .enum-told .given .1)
 
--- src/lib.rt:156:1
 returns-3 : tie.Need-returns-3
 returns-3 c =
     rw (ne-eqb _ _ (c .before .before .if1 .left), c .enum-told2 .given .1)
 
--- src/lib.rt:156:1
 returns-4 : tie.Need-returns-4
 returns-4 c =
     rw (ne-eqb _ _ (c .before .before .if1 .left), c .enum-told3 .given .1)

@@ -1,0 +1,65 @@
+use Rattle.llrb.specs.Tree.{left, right}
+use Rattle.rb_nodes.proofs.Heap.{full-in, sub-left, sub-right}
+use Rattle.rb_nodes.proofs.Steps.{loosen}
+use Rattle.rb_nodes.proofs.Colours.{seen, idle}
+use Rattle.rb_balance.proofs.Balancing.{one-no, one-left, one-yes}
+use borrow.Author.Needs.{needs}
+use Rattle.rb_balance.proofs.balance_1.Statement.{statement}
+use Rattle.rb_balance.proofs.balance_1.Tie as tie
+
+right-requires : tie.Need-right-requires
+right-requires c κs =
+    full-in (c .before .before .pre .0) (c .before .before .pre .1) (c .before .before .pre .2)
+
+is-red-requires : tie.Need-is-red-requires
+is-red-requires c κs =
+    (right (c .before .before .before .before .pre .0), sub-right (c .before .before .before .before .pre .0) (c .before .before .before .before .pre .1) (c .before .before .before .before .pre .2) (c .before .right .ensures))
+
+left-requires : tie.Need-left-requires
+left-requires c κs =
+    full-in (c .before .before .before .before .before .before .before .pre .0) (c .before .before .before .before .before .before .before .pre .1) (c .before .before .before .before .before .before .before .pre .2)
+
+is-red-requires-2 : tie.Need-is-red-requires-2
+is-red-requires-2 c κs =
+    (left (c .before .before .before .before .before .before .before .before .before .pre .0), sub-left (c .before .before .before .before .before .before .before .before .before .pre .0) (c .before .before .before .before .before .before .before .before .before .pre .1) (c .before .before .before .before .before .before .before .before .before .pre .2) (c .before .left .ensures))
+
+same-length : tie.Need-same-length
+same-length c = search needs
+
+returns : tie.Need-returns
+returns c =
+    λ t u a f w. idle a (one-left t u a f (c .before .before .before .before .before .before .before .before .right .ensures) (seen (c .before .before .before .before .before .before .is-red .ensures) (c .before .before .before .before .before .if1 .taken)) (c .before .before .before .left .ensures) (seen (c .before .is-red2 .ensures) (c .if2 .taken)) w)
+
+rotate-left-requires : tie.Need-rotate-left-requires
+rotate-left-requires c κs =
+    (c .before .before .before .before .before .before .before .before .before .before .before .before .pre .0, c .before .before .before .before .before .before .before .before .before .before .before .before .pre .1, c .before .before .before .before .before .before .before .before .before .before .before .before .pre .3, one-yes (c .before .before .before .before .before .before .before .before .before .before .before .before .pre .0) (c .before .before .before .before .before .before .before .before .before .before .before .before .pre .3) (c .before .before .before .before .before .before .before .before .before .before .before .before .pre .1) (c .before .before .before .before .before .before .before .before .before .before .before .before .pre .2) (c .before .before .before .before .before .before .before .before .before .right .ensures) (seen (c .before .before .before .before .before .before .before .is-red .ensures) (c .before .before .before .before .before .before .if1 .taken)) (c .before .before .before .before .left .ensures) (seen (c .before .before .is-red2 .ensures) (c .before .if2 .left)) (c .before .before .before .before .before .before .before .before .before .before .before .before .pre .4))
+
+same-length-2 : tie.Need-same-length-2
+same-length-2 c = search needs
+
+returns-2 : tie.Need-returns-2
+returns-2 c =
+    λ t u a f w. loosen (c .before .before .rotate-left .ensures t u a (one-yes t u a f (c .before .before .before .before .before .before .before .before .before .before .before .before .right .ensures) (seen (c .before .before .before .before .before .before .before .before .before .before .is-red .ensures) (c .before .before .before .before .before .before .before .before .before .if1 .taken)) (c .before .before .before .before .before .before .before .left .ensures) (seen (c .before .before .before .before .before .is-red2 .ensures) (c .before .before .before .before .if2 .left)) w))
+
+same-length-3 : tie.Need-same-length-3
+same-length-3 c = search needs
+
+returns-3 : tie.Need-returns-3
+returns-3 c =
+    λ t u a f w. idle a (one-no t u a f (c .before .before .before .right .ensures) (seen (c .before .is-red .ensures) (c .if1 .left)) w)
+
+pub balance-1-spec : {M : Type 1} → statement M
+balance-1-spec =
+    tie.close
+    (tie.spec
+    right-requires
+    is-red-requires
+    left-requires
+    is-red-requires-2
+    same-length
+    returns
+    rotate-left-requires
+    same-length-2
+    returns-2
+    same-length-3
+    returns-3)

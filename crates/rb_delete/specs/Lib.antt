@@ -1,0 +1,2 @@
+-- The contracts of delete on a tree in slots.
+pub mod Deletes

@@ -1,0 +1,2 @@
+-- The moves of the Rust's delete.
+pub mod Moves

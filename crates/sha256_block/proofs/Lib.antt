@@ -1,0 +1,2 @@
+-- What the proofs of the rounds share.
+pub mod Ring

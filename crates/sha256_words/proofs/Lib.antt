@@ -1,0 +1,3 @@
+-- The constant words follow their rule.
+pub mod Table
+pub mod Roots

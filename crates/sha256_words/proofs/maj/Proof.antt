@@ -1,0 +1,11 @@
+use mathlib.Core.Path.{refl}
+use Rattle.sha256_words.specs.Words.{AND, XOR, Maj}
+use Rattle.sha256_words.proofs.maj.Statement.{statement}
+use Rattle.sha256_words.proofs.maj.Tie as tie
+
+returns : tie.Need-returns
+unfolding AND XOR Maj
+returns c = refl
+
+pub maj-spec : {M : Type 1} → statement M
+maj-spec = tie.close (tie.spec returns)

@@ -1,0 +1,17 @@
+use borrow.Author.Needs.{needs}
+use Rattle.sha256_words.specs.Words.{XOR, SHR, σ₁}
+use Rattle.sha256_words.proofs.small_sigma1.Statement.{statement}
+use Rattle.sha256_words.proofs.small_sigma1.Tie as tie
+
+rotr-requires : tie.Need-rotr-requires
+rotr-requires c κs = search needs
+
+rotr-requires-2 : tie.Need-rotr-requires-2
+rotr-requires-2 c κs = search needs
+
+returns : tie.Need-returns
+unfolding XOR SHR σ₁
+returns c = cc
+
+pub small-sigma1-spec : {M : Type 1} → statement M
+small-sigma1-spec = tie.close (tie.spec rotr-requires rotr-requires-2 returns)
