@@ -200,11 +200,6 @@ module _ (first last : Key) (t : Tree) (s : Sorted (entries t)) where
 
 -- ---- the test of two bounds; they are crossed only where first is above last, so that first and last need not be compared
 
-pub not-crossed : (lo hi : Option KeyBound) → crossed lo hi ≡ false → InOrder lo hi
-not-crossed none hi h = tt
-not-crossed (some lo) none h = tt
-not-crossed (some lo) (some hi) h = λ u. true≢false (rw (lt-gt (at hi) (at lo) u) at h)
-
 pub in-order-not : (lo hi : Option KeyBound) → InOrder lo hi → crossed lo hi ≡ false
 in-order-not none hi o = refl
 in-order-not (some lo) none o = refl
@@ -214,6 +209,11 @@ in-order-not (some lo) (some hi) o = go (cmp (at lo) (at hi)) refl
     go Less q = refl
     go Equal q = refl
     go Greater q = absurd (o (gt-lt (at lo) (at hi) q))
+
+pub not-crossed : (lo hi : Option KeyBound) → crossed lo hi ≡ false → InOrder lo hi
+not-crossed none hi h = tt
+not-crossed (some lo) none h = tt
+not-crossed (some lo) (some hi) h = λ u. true≢false (rw (lt-gt (at hi) (at lo) u) at h)
 
 pub crossed-above : (first last : Key) (t : Tree) → Sorted (entries t) → crossed (lowerBound first t) (upperBound last t) ≡ true → Lt last first
 crossed-above first last t s h = go (cmp last first) refl
