@@ -8,7 +8,7 @@ use Rattle.judge.proofs.chain_ok.Statement.{statement}
 use Rattle.judge.proofs.chain_ok.Tie as tie
 use Rattle.judge.proofs.chain_ok.Reads as reads
 use Rattle.judge.proofs.chain_ok.Lts as lts
-use Rattle.slots.proofs.is_free.Reads as is-free-reads
+use Rattle.slot_tests.proofs.is_free.Reads as is-free-reads
 use Rattle.slots.proofs.left.Reads as left-reads
 
 abbrev Inv-loop : tie.InvT-loop

@@ -9,7 +9,7 @@ use Rattle.judge.proofs.node_ok.Reads as reads
 use Rattle.judge.proofs.node_ok.Lts as lts
 use Rattle.judge.proofs.colour_ok.Reads as colour-ok-reads
 use Rattle.slots.proofs.digest.Reads as digest-reads
-use Rattle.slots.proofs.is_entry.Reads as is-entry-reads
+use Rattle.slot_tests.proofs.is_entry.Reads as is-entry-reads
 use Rattle.judge.proofs.node_digest.Reads as node-digest-reads
 use Rattle.judge.proofs.same.Reads as same-reads
 
