@@ -80,7 +80,7 @@ fn node_ok(s: &[u8], cap: usize, i: usize, h: Head, black: bool) -> bool
     if cap < h.right {
         return false;
     }
-    if !slots::is_entry(s, i, h) {
+    if !slot_tests::is_entry(s, i, h) {
         return false;
     }
     let d = subtree_digest(s, i);
@@ -190,7 +190,7 @@ fn chain_ok(s: &[u8], cap: usize, x: usize, n: usize) -> bool
         if cap < at {
             return false;
         }
-        if !slots::is_free(s, at) {
+        if !slot_tests::is_free(s, at) {
             return false;
         }
         at = slots::left(s, at);
