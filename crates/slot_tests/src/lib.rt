@@ -14,7 +14,7 @@ fn key_padded(s: &[u8], i: usize, n: usize) -> bool
     ensures { λ r. ⌜ Decides r (slot (now (s .entry)) i .keyRoom ≡ padded maxKey (take n (slot (now (s .entry)) i .keyRoom))) ⌝ }
 {
     let k = slots::key_at(s.len(), i);
-    runs::is_zero(s, k + n, slots::MAX_KEY - n)
+    runs::is_zero(s, k + n, answers::MAX_KEY - n)
 }
 
 fn value_padded(s: &[u8], i: usize, n: usize) -> bool
@@ -23,7 +23,7 @@ fn value_padded(s: &[u8], i: usize, n: usize) -> bool
     ensures { λ r. ⌜ Decides r (slot (now (s .entry)) i .valueRoom ≡ padded maxValue (take n (slot (now (s .entry)) i .valueRoom))) ⌝ }
 {
     let v = slots::value_at(s.len(), i);
-    runs::is_zero(s, v + n, slots::MAX_VALUE - n)
+    runs::is_zero(s, v + n, answers::MAX_VALUE - n)
 }
 
 // Whether slot `i`, whose head is `h`, is laid out as an entry's.
@@ -39,11 +39,11 @@ pub fn is_entry(s: &[u8], i: usize, h: Head) -> bool
         return false;
     }
     let k = h.key_length;
-    if k > slots::MAX_KEY {
+    if k > answers::MAX_KEY {
         return false;
     }
     let v = h.value_length;
-    if v > slots::MAX_VALUE {
+    if v > answers::MAX_VALUE {
         return false;
     }
     if !key_padded(s, i, k) {
@@ -77,11 +77,11 @@ pub fn is_free(s: &[u8], i: usize) -> bool
         return false;
     }
     let k = slots::key_at(s.len(), i);
-    if !runs::is_zero(s, k, slots::MAX_KEY) {
+    if !runs::is_zero(s, k, answers::MAX_KEY) {
         return false;
     }
     let v = slots::value_at(s.len(), i);
-    if !runs::is_zero(s, v, slots::MAX_VALUE) {
+    if !runs::is_zero(s, v, answers::MAX_VALUE) {
         return false;
     }
     let d = slots::digest_at(s.len(), i);

@@ -1,4 +1,6 @@
 // The bytes of a store (document 01, "Store layout"): the only crate that knows where a bit lies.
+use answers::MAX_KEY;
+use answers::MAX_VALUE;
 ghost use mathlib.Core.Path.{_≡_};
 ghost use Prim.Native.Nat.{_+_, _≤_, _<_};
 ghost use lib.ListN.{length, take};
@@ -8,14 +10,8 @@ ghost use Rattle.slots.specs.Limits.{maxCapacity, maxKey, maxValue, stor
 ghost use Rattle.slots.specs.Layout.{HasSlot, headAt, keyAt, valueAt, digestAt, header, HeaderFits, slot, digestOf, keyOf, valueOf, nodeSlot, headOf, HeadFits};
 ghost use Rattle.slots.specs.Setters.{setHeader, setSlot, setDigest, setRoot, withHead, setRed, setLeft, setRight, setValue, moveEntry, clearSlot};
 
-// The edition that the header names, and the limits.
+// The edition that the header names.
 pub const EDITION: usize = 1;
-
-pub const MAX_CAPACITY: usize = 1024;
-
-pub const MAX_KEY: usize = 48;
-
-pub const MAX_VALUE: usize = 64;
 
 // Bytes in the header and in a slot.
 const HEADER_LENGTH: usize = 8;
