@@ -1,4 +1,4 @@
--- What the rebuild's answers say of the parse, over plain values. Assumes nothing.
+-- What the rebuild's answers say of the parse, over plain values.
 use Prim.Native.Nat.{ℕ, zero, suc, _+_, _-_, _<_, _≤_}
 use mathlib.Core.Path.{_≡_, refl, sym, ap, subst, _∙_}
 use mathlib.Core.Bool.{Bool, true, false}
@@ -17,7 +17,7 @@ use Rattle.hash_tree.specs.HashTree.{HashTree, digest}
 use Rattle.hash_tree.specs.Record.{recordOf, Opens, kindOf, lenOf, least, most}
 use Rattle.hash_tree.specs.Parse.{Parsed, Got, Bad, parse, grow, byKind, labeled, forked, fork}
 use Rattle.hash_tree.specs.Steps.{badStep, stepOf, joinFork, joinLabeled, singleStep}
-use Rattle.hash_tree.specs.RecordLaws.{View, whole, bad, view}
+use Rattle.hash_tree.proofs.RecordLaws.{View, whole, bad, view}
 use Rattle.hash_tree.specs.Whole.{alone, accepted, refused}
 
 no-true : true ≡ false → ⊥

@@ -1,4 +1,4 @@
--- Hash trees and their digests, from the Internet Computer Interface Specification ("Hash trees in certificates"). Definitions only.
+-- Hash trees and their digests, from the Internet Computer Interface Specification ("Hash trees in certificates").
 use mathlib.Core.List.{List, [], _∷_, _++_}
 use Prim.Native.Nat.{ℕ}
 use lib.ListN.{length}

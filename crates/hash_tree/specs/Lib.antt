@@ -5,10 +5,6 @@ pub mod Record
 pub mod Parse
 pub mod Whole
 pub mod Steps
-pub mod RecordLaws
-pub mod ParseLaws
 pub mod Deep
-pub mod Promises
-pub mod DigestLaws
 pub mod Prune
 pub mod Examples

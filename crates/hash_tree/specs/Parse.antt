@@ -1,4 +1,4 @@
--- The tree at the front of a list of bytes, with what is left of the list. Definitions only.
+-- The tree at the front of a list of bytes, with what is left of the list.
 use Prim.Native.Nat.{ℕ, zero, suc, _<_}
 use mathlib.Core.List.{List}
 use lib.ListN.{take, drop, getD}

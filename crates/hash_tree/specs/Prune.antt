@@ -1,6 +1,5 @@
--- A tree with some of its parts pruned has the tree's digest. Assumes nothing.
+-- A tree with some of its parts pruned.
 use Prim.Native.Nat.{ℕ}
-use mathlib.Core.Path.{_≡_, refl}
 use mathlib.Core.List.{List}
 use Rattle.hash_tree.specs.HashTree.{HashTree, Fork, Labeled, Pruned, digest}
 
@@ -10,9 +9,3 @@ pub data Prunes : HashTree → HashTree → Type 0 where
   same : (t : HashTree) → Prunes t t
   fork : {l r l′ r′ : HashTree} → Prunes l′ l → Prunes r′ r → Prunes (Fork l′ r′) (Fork l r)
   labeled : (b : List ℕ) {t t′ : HashTree} → Prunes t′ t → Prunes (Labeled b t′) (Labeled b t)
-
-pub digest-prunes : {u t : HashTree} → Prunes u t → digest u ≡ digest t
-digest-prunes (cut t) = refl
-digest-prunes (same t) = refl
-digest-prunes (fork h g) = rw (digest-prunes h, digest-prunes g)
-digest-prunes (labeled b h) = rw (digest-prunes h)

@@ -1,4 +1,4 @@
--- The first record of a list of bytes, as the code's own enum answers it. Definitions only.
+-- The first record of a list of bytes, as the code's own enum answers it.
 use Prim.Native.Nat.{ℕ, _+_, _-_, _*_, _/_, _%_, _≤_, _<_}
 use mathlib.Core.List.{List}
 use mathlib.Core.Bool.{Bool, true, false}

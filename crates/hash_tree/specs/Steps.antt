@@ -1,12 +1,14 @@
--- The answers of the functions below `rebuild`, as values. Definitions only.
-use Prim.Native.Nat.{ℕ, _-_}
+-- The answers of the functions below `rebuild`, as values.
+use Prim.Native.Nat.{ℕ, _+_, _-_}
 use mathlib.Core.Bool.{Bool, true, false}
 use mathlib.Core.List.{List}
 use lib.ListN.{length, replicate}
 use lib.Dec.{eqb}
 use Rattle.hash_tree.specs.declared.Step.{Step}
+use Rattle.hash_tree.specs.declared.Place.{Place}
+use Rattle.hash_tree.specs.declared.Place.the-variants.{At, Nothing}
 use Rattle.hash_tree.specs.HashTree.{Digest, digest, emptyHash, forkHash, labeledHash, leafHash}
-use Rattle.hash_tree.specs.Written.{digestLen}
+use Rattle.hash_tree.specs.Written.{size, digestLen}
 use Rattle.hash_tree.specs.Parse.{Parsed, Got, Bad}
 
 abbrev pub badStep : Step
@@ -34,3 +36,8 @@ abbrev pub singleStep : ℕ → List ℕ → ℕ → Step
 singleStep k b n =
     pickStep (eqb k 0) (goodStep n emptyHash)
     (pickStep (eqb k 3) (goodStep n (leafHash b)) (pickStep (eqb k 4) (goodStep n b) badStep))
+
+-- the place after the tree at a place
+abbrev pub placeOf : ℕ → Parsed → Place
+placeOf at (Got t rest) = At (at + size t)
+placeOf at Bad = Nothing

@@ -1,4 +1,4 @@
--- The written form of a hash tree, and which trees may be written: document 01, "Witness trees". Definitions only.
+-- The written form of a hash tree, and which trees may be written: document 01, "Witness trees".
 use Prim.Native.Nat.{ℕ, suc, _+_, _*_, _/_, _%_, _≤_, max}
 use mathlib.Core.Path.{_≡_}
 use mathlib.Core.List.{List, [], _∷_, _++_}

@@ -5,8 +5,9 @@ ghost use Prim.Native.Nat.{_+_, _-_, _≤_, _<_};
 ghost use lib.ListN.{length, take, drop};
 ghost use Rattle.hash_tree.specs.HashTree.{emptyHash, forkHash, labeledHash, leafHash};
 ghost use Rattle.hash_tree.specs.Record.{recordOf, placeAfter, least, most};
+ghost use Rattle.hash_tree.specs.Written.{maxDepth};
 ghost use Rattle.hash_tree.specs.Parse.{parse};
-ghost use Rattle.hash_tree.specs.Steps.{badStep, goodStep, stepOf, joinFork, joinLabeled, singleStep};
+ghost use Rattle.hash_tree.specs.Steps.{badStep, goodStep, stepOf, joinFork, joinLabeled, singleStep, placeOf};
 ghost use Rattle.hash_tree.specs.Whole.{rebuilt, refused};
 
 // A tag is one length byte and then the text. Labels, values and digests may be of any length here.
@@ -221,9 +222,40 @@ fn single(s: &[u8], start: usize, end: usize, kind: usize) -> Step
     bad()
 }
 
+// A place in the bytes, or none.
+pub enum Place {
+    At(usize),
+    Nothing,
+}
+
+// The place after the tree at a place, at most `depth` records deep. Nothing is hashed.
+pub fn tree_at(s: &[u8], at: usize, depth: usize) -> Place
+    requires { ⌜ depth ≤ maxDepth ⌝ }
+    ensures { λ r. ⌜ r ≡ placeOf at (parse depth (drop at (now (s .entry)))) ⌝ }
+{
+    if depth == 0 {
+        return Place::Nothing;
+    }
+    let Record::Whole { kind, len } = record_at(s, at) else {
+        return Place::Nothing;
+    };
+    let next = at + 2 + len;
+    if kind == FORK {
+        let Place::At(middle) = tree_at(s, next, depth - 1) else {
+            return Place::Nothing;
+        };
+        return tree_at(s, middle, depth - 1);
+    }
+    if kind == LABELED {
+        return tree_at(s, next, depth - 1);
+    }
+    Place::At(next)
+}
+
 // Rebuilds the tree that stands at a place, at most `depth` records deep. A fork whose first child is no tree is left
 // at once, so each byte is read a bounded number of times, whatever the bytes are.
 pub fn rebuild_at(s: &[u8], at: usize, depth: usize) -> Step
+    requires { ⌜ depth ≤ maxDepth ⌝ }
     ensures { λ r. ⌜ r ≡ stepOf (now (s .entry)) (parse depth (drop at (now (s .entry)))) ⌝ }
 {
     if depth == 0 {

@@ -91,7 +91,7 @@ count-is : {s : List ℕ} {m : Model} → Represents s m → countAnswer s ≡ r
 unfolding countAnswer
 count-is a = ap counted (on-sound a (λ m. done (size (m .tree))) (refused NotSound))
 
-not-reversed : (first last : Key) → Le first last → reversed first last ≡ false
+pub not-reversed : (first last : Key) → Le first last → reversed first last ≡ false
 not-reversed first last o = at (cmp first last) refl
   where
     at : (c : Ordering) → cmp first last ≡ c → pick c false false true ≡ false

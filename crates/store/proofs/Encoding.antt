@@ -11,7 +11,7 @@ use Rattle.slots.specs.Bits.{Bytes}
 use Rattle.slots.specs.Layout.{HeaderFits, SlotFits, slot, freeSlot}
 use Rattle.slots.proofs.Writing.{length-zeros, node-fits, free-fits}
 use Rattle.slots.proofs.Whole.{length-bytesOf, header-bytesOf, slot-bytesOf, digest-bytesOf, is-bytesOf}
-use Rattle.hash_tree.specs.DigestLaws.{emptyHash-length, forkHash-length, labeledHash-length}
+use Rattle.hash_tree.proofs.DigestLaws.{emptyHash-length, forkHash-length, labeledHash-length}
 use Rattle.llrb.specs.Tree.{Entry, Tree, nil, node, entries}
 use Rattle.llrb.specs.Digests.{subtreeDigest}
 use Rattle.llrb.specs.Path.{Sub, whole, on-left, on-right}

@@ -13,3 +13,4 @@ pub mod Witnessing
 pub mod Demand
 pub mod Table
 pub mod Refusing
+pub mod Viewing

@@ -10,8 +10,8 @@ use Rattle.hash_tree.specs.HashTree.{HashTree}
 use Rattle.hash_tree.specs.Written as written
 use Rattle.hash_tree.specs.Written.{write, depth, maxDepth, Lengths}
 use Rattle.hash_tree.specs.Whole as whole
-use Rattle.hash_tree.specs.Promises.{accepts}
-use Rattle.hash_tree.specs.DigestLaws.{forkHash-length, labeledHash-length, leafHash-length}
+use Rattle.hash_tree.proofs.Promises.{accepts}
+use Rattle.hash_tree.proofs.DigestLaws.{forkHash-length, labeledHash-length, leafHash-length}
 use Rattle.llrb.specs.Tree.{Entry, Tree, nil, node, entries, size}
 use Rattle.llrb.specs.Digests.{rootHash}
 use Rattle.llrb.proofs.Height.{height-20}

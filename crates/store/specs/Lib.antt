@@ -15,3 +15,4 @@ pub mod Calls
 pub mod Table
 pub mod History
 pub mod Demand
+pub mod Viewed

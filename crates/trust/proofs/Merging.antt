@@ -18,7 +18,7 @@ use Rattle.hash_tree.specs.Written.{write, Lawful, maxDepth}
 use Rattle.hash_tree.specs.Parse.{Parsed, Got, Bad, parse, Bytes}
 use Rattle.hash_tree.specs.Whole.{rebuilt, accepted, alone}
 use Rattle.hash_tree.specs.Whole as whole-tree
-use Rattle.hash_tree.specs.Promises.{accepts, zero-or-refused}
+use Rattle.hash_tree.proofs.Promises.{accepts, zero-or-refused}
 use Rattle.hash_tree.specs.Prune.{Prunes}
 use Rattle.lookup.specs.declared.Looked.the-variants as looked
 use Rattle.lookup.specs.Answer.{lookupAnswer}

@@ -7,8 +7,8 @@ use native.Mathlib.Omega.{arith}
 use lib.ListN.{length, length-take}
 use Rattle.hash_tree.specs.HashTree.{forkHash, leafHash}
 use Rattle.hash_tree.specs.Written.{piece, write}
-use Rattle.hash_tree.specs.ParseLaws.{length-piece, length-write}
-use Rattle.hash_tree.specs.DigestLaws.{forkHash-length, labeledHash-length, leafHash-length}
+use Rattle.hash_tree.proofs.ParseLaws.{length-piece, length-write}
+use Rattle.hash_tree.proofs.DigestLaws.{forkHash-length, labeledHash-length, leafHash-length}
 use Rattle.llrb.specs.Digests.{dataDigest}
 use Rattle.slots.specs.Layout.{HasSlot, slot, digestOf, keyOf, valueOf}
 use Rattle.slots.proofs.Lenses.{digest-length}

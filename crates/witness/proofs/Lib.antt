@@ -1,5 +1,4 @@
 -- The writer's bytes, one after the other.
-pub mod Putting
 pub mod Lengths
 pub mod Stepping
 pub mod Saving

@@ -5,10 +5,9 @@ use mathlib.Core.Bool.{false, true≢false}
 use mathlib.Core.List.{List, _++_}
 use mathlib.Core.Option.{Option, none, some}
 use native.Mathlib.Omega.{arith}
-use native.Mathlib.Nat.{zero-add}
 use borrow.Author.Tests.{le-ltb, lt-ltb}
-use lib.ListN.{length, drop}
-use lib.Seq.{sets-eq}
+use lib.ListN.{length}
+use Rattle.output.proofs.Putting.{puts-front}
 use Rattle.key_order.specs.declared.Ordering.{Ordering}
 use Rattle.key_order.specs.declared.Ordering.the-variants.{Less, Equal, Greater}
 use Rattle.key_order.specs.Order.{Key, cmp, pick}
@@ -50,7 +49,8 @@ use Rattle.witness_walks.proofs.Never.{range-reached}
 use Rattle.witness_walks.proofs.Writing.{part-bytes}
 use Rattle.witness_walks.proofs.Walking.{PlacedEnd, walk-full, walk-range, walk-lookup}
 use Rattle.answers.specs.declared.Saved.{Saved}
-use Rattle.witness.specs.Putting.{Puts, Laid, bytesBelow}
+use Rattle.output.specs.Putting.{Puts}
+use Rattle.witness.specs.Putting.{Laid, bytesBelow}
 use Rattle.witness.specs.Saving.{answered, putFront, CanSave, Saves, BoundIn, CanRange}
 
 -- ---- the front of the output
@@ -60,8 +60,8 @@ front-short o w h = rw (lt-ltb (length o) (length w) h)
 
 pub front-put : {o o′ : List ℕ} {k : ℕ} (w : List ℕ) → length w ≤ length o → Puts o o′ 0 k w → answered (record { number = 0; size = k }) o′ ≡ putFront o w
 front-put {o = o} w h p =
-    rw (le-ltb (length o) (length w) h)
-    (λ i. record { number = 0; size = (p .place ∙ zero-add (length w)) i; output = (p .bytes ∙ sets-eq w o 0 (omega arith) ∙ ap (λ n. w ++ drop n o) (zero-add (length w))) i })
+    let q = puts-front w h p in
+    rw (le-ltb (length o) (length w) h) (λ i. record { number = 0; size = q .0 i; output = q .1 i })
 
 -- ---- what get answers
 

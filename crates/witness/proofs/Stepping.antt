@@ -29,9 +29,10 @@ use Rattle.witness_walks.specs.Walked.{forkBytes, partBytes}
 use Rattle.witness_walks.specs.InStore.{keyIn, BoundsIn, PartIn, recordsIn, middleIn, MiddleAt, hiddenIn, HiddenAt}
 use Rattle.witness_walks.proofs.Laying.{records-held, middle-held, hidden-held}
 use Rattle.witness_trees.proofs.Lists.{arms}
-use Rattle.witness.specs.declared.Room.{Room}
-use Rattle.witness.specs.Putting.{Puts, roomAfter, Laid, bytesBelow}
-use Rattle.witness.proofs.Putting.{puts-then, puts-length, room-then}
+use Rattle.output.specs.declared.Room.{Room}
+use Rattle.output.specs.Putting.{Puts, roomAfter}
+use Rattle.witness.specs.Putting.{Laid, bytesBelow}
+use Rattle.output.proofs.Putting.{puts-then, puts-length, room-then}
 
 -- ---- the bounds go down with the walk
 

@@ -1,11 +1,8 @@
--- What it is to put bytes at a place, the room that is left, and the contracts of the two walks over a tree in a store.
+-- The contracts of the two walks over a tree in a store: the room that a witness leaves, and its bytes.
 use mathlib.Core.Path.{_≡_}
-use mathlib.Core.Bool.{Bool, true, false}
 use mathlib.Core.List.{List}
-use Prim.Native.Nat.{ℕ, _+_, _-_, _≤_}
-use lib.Dec.{leb}
+use Prim.Native.Nat.{ℕ, _+_, _≤_}
 use lib.ListN.{length}
-use lib.Seq.{sets}
 use Rattle.llrb.specs.Tree.{Tree}
 use Rattle.store.specs.Sound.{Digests}
 use Rattle.search.specs.Search.{Lies}
@@ -13,24 +10,8 @@ use Rattle.witness_walks.specs.declared.Part.{Part}
 use Rattle.witness_walks.specs.declared.What.{What}
 use Rattle.witness_walks.specs.Walked.{partBytes}
 use Rattle.witness_walks.specs.InStore.{keyIn, PartIn}
-use Rattle.witness.specs.declared.Room.{Room}
-use Rattle.witness.specs.declared.Room.the-variants.{Left, Short}
-
--- o with w put at `at` is o′, and `next` is the place after it
-pub record Puts (o o′ : List ℕ) (at next : ℕ) (w : List ℕ) : Type 0 where
-  pub place : next ≡ at + length w
-  pub bytes : o′ ≡ sets o at w
-
-abbrev pub pickRoom : Bool → Room → Room → Room
-pickRoom true a b = a
-pickRoom false a b = b
-
--- what is left of a room after n bytes
-abbrev pub roomAfter : ℕ → Room → Room
-roomAfter n Short = Short
-roomAfter n (Left m) = pickRoom (leb n m) (Left (m - n)) Short
-
--- ---- a tree in a store
+use Rattle.output.specs.declared.Room.{Room}
+use Rattle.output.specs.Putting.{Puts, roomAfter}
 
 -- the tree t lies below slot n, and its digests are right
 pub record Laid (s : List ℕ) (n : ℕ) (t : Tree) : Type 0 where

@@ -9,6 +9,10 @@ use hash_tree::PRUNED;
 use hash_tree::fork_hash;
 use hash_tree::labeled_hash;
 use hash_tree::leaf_hash;
+use output::Room;
+use output::less;
+use output::put_head;
+use output::put_piece;
 use search::Bound;
 use search::Found;
 use search::get;
@@ -25,75 +29,20 @@ use witness_walks::Walk;
 use witness_walks::What;
 use witness_walks::records_at;
 ghost use mathlib.Core.Path.{_≡_};
-ghost use Prim.Native.Nat.{_+_, _≤_, _<_};
+ghost use Prim.Native.Nat.{_+_, _≤_};
 ghost use lib.ListN.{length};
-ghost use Rattle.hash_tree.specs.Written.{head, piece};
 ghost use Rattle.llrb.specs.Digests.{dataDigest};
 ghost use Rattle.search.specs.Search.{EntryAt};
 ghost use Rattle.witness_walks.specs.Walked.{forkBytes};
 ghost use Rattle.witness_walks.specs.InStore.{entryIn, shownIn, middleIn, MiddleAt, hiddenIn, HiddenAt, hiddenLen};
-ghost use Rattle.witness.specs.Putting.{Puts, roomAfter, CanFit, Fits, CanWrite, Writes};
+ghost use Rattle.output.specs.Putting.{Puts};
+ghost use Rattle.witness.specs.Putting.{CanFit, Fits, CanWrite, Writes};
 ghost use Rattle.answers.specs.Answers.{answered};
 ghost use Rattle.witness.specs.Saving.{Saves, CanSave, CanRange};
 ghost use mathlib.Core.Bool.{false};
 ghost use Rattle.store.specs.Sound.{Sound};
 ghost use Rattle.store.specs.Calls.{reversed, asHashTreeAnswer, keysAnswer, witnessAnswer, keyRangeAnswer, valueRangeAnswer, keysWithPrefixAnswer};
 ghost use Rattle.witness_walks.specs.Bounds.{walkBetween};
-
-// The room that is left for writing.
-pub enum Room {
-    Left(usize),
-    Short,
-}
-
-// ---- room
-
-// `n` bytes out of a room.
-fn less(room: Room, n: usize) -> Room
-    ensures { λ r. ⌜ r ≡ roomAfter n room ⌝ }
-{
-    let Room::Left(m) = room else {
-        return Room::Short;
-    };
-    if n <= m {
-        Room::Left(m - n)
-    } else {
-        Room::Short
-    }
-}
-
-// ---- records
-
-// The 16 bits that open a record.
-fn put_head(out: &mut [u8], at: usize, kind: usize, len: usize) -> usize
-    requires { ⌜ (kind < 5) × (len ≤ 64) × (at + 2 ≤ length (now out)) ⌝ }
-    ensures { λ r. ⌜ Puts (now (out .entry)) (now (out .exit)) at r (head kind len) ⌝ }
-{
-    out[at] = (kind * 32 + len / 256) as u8;
-    out[at + 1] = (len % 256) as u8;
-    at + 2
-}
-
-fn put_bytes(out: &mut [u8], at: usize, src: &[u8]) -> usize
-    requires { ⌜ at + length (now src) ≤ length (now out) ⌝ }
-    ensures { λ r. ⌜ Puts (now (out .entry)) (now (out .exit)) at r (now (src .entry)) ⌝ }
-{
-    let mut i = 0;
-    while i < src.len() {
-        out[at + i] = src[i];
-        i += 1;
-    }
-    at + i
-}
-
-// A record without its children.
-fn put_piece(out: &mut [u8], at: usize, kind: usize, src: &[u8]) -> usize
-    requires { ⌜ (kind < 5) × (length (now src) ≤ 64) × (at + length (piece kind (now src)) ≤ length (now out)) ⌝ }
-    ensures { λ r. ⌜ Puts (now (out .entry)) (now (out .exit)) at r (piece kind (now (src .entry))) ⌝ }
-{
-    let x = put_head(out, at, kind, src.len());
-    put_bytes(out, x, src)
-}
 
 // A Fork's head, if the node has one.
 fn put_fork(out: &mut [u8], at: usize, fork: bool) -> usize

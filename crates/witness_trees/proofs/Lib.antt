@@ -1,4 +1,4 @@
--- What holds of every witness. Results: Laws (per call), Demand (after any history), Words, Root, Never, Loops, Cut.
+-- What holds of every witness. Results: Laws (per call), Demand (after any history), Words, Root, Never, View, Loops, Cut.
 pub mod Shown
 pub mod Lists
 pub mod Walks
@@ -12,3 +12,4 @@ pub mod Demand
 pub mod Root
 pub mod Loops
 pub mod Cut
+pub mod View

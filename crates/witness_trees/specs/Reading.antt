@@ -22,19 +22,31 @@ isPruned (Labeled k t) = false
 isPruned (Leaf v) = false
 isPruned (Pruned d) = true
 
--- all labels, in order
+-- what stands right under a label
+abbrev pub under : HashTree → Option Value
+under Empty = none
+under (Fork l r) = none
+under (Labeled k t) = none
+under (Leaf v) = some v
+under (Pruned d) = none
+
+abbrev pub orNothing : Option Value → List Value
+orNothing none = []
+orNothing (some v) = v ∷ []
+
+-- the labels at the level of a map, in order: what lies below a label is not read
 abbrev pub labels : HashTree → List Key
 labels Empty = []
 labels (Fork l r) = labels l ++ labels r
-labels (Labeled k t) = k ∷ labels t
+labels (Labeled k t) = k ∷ []
 labels (Leaf v) = []
 labels (Pruned d) = []
 
--- all values, in order
+-- the values at the level of a map, in order: those right under a label
 abbrev pub leaves : HashTree → List Value
 leaves Empty = []
 leaves (Fork l r) = leaves l ++ leaves r
-leaves (Labeled k t) = leaves t
+leaves (Labeled k t) = orNothing (under t)
 leaves (Leaf v) = v ∷ []
 leaves (Pruned d) = []
 
@@ -42,13 +54,6 @@ leaves (Pruned d) = []
 pub record Told : Type 0 where
   pub key : Key
   pub value : Option Value
-
-abbrev pub under : HashTree → Option Value
-under Empty = none
-under (Fork l r) = none
-under (Labeled k t) = none
-under (Leaf v) = some v
-under (Pruned d) = none
 
 abbrev pub says : HashTree → List Told
 says Empty = []

@@ -72,61 +72,48 @@ module _ (t : ℕ) (c : Read t) where
   cut : at + 2 + len - (at + 2) ≡ len
   cut = add-sub-cancel-left (at + 2) len
 
--- src/lib.rt:207:9
 rebuild-at-bad-requires : (t : ℕ) → rebuild-at-lts.Need-bad-requires (claims-rebuild-at t) (rebuild-at-at t) rebuild-at.Post
 rebuild-at-bad-requires t c κs = search needs
 
--- src/lib.rt:207:9
 rebuild-at-returns : (t : ℕ) → rebuild-at-lts.Need-returns (claims-rebuild-at t) (rebuild-at-at t) rebuild-at.Post
 rebuild-at-returns t c =
     step-bad (c .before .before .before .args .s .now) (c .bad .result) _ (c .bad .ensures) (parse-none _ _ (c .before .if1 .taken))
 
--- src/lib.rt:209:39
 rebuild-at-record-at-requires : (t : ℕ) → rebuild-at-lts.Need-record-at-requires (claims-rebuild-at t) (rebuild-at-at t) rebuild-at.Post
 rebuild-at-record-at-requires t c κs = search needs
 
--- src/lib.rt:209:25
 rebuild-at-enum-known-kind : (t : ℕ) → rebuild-at-lts.Need-enum-known-kind (claims-rebuild-at t) (rebuild-at-at t) rebuild-at.Post
 rebuild-at-enum-known-kind t c = search needs
 
--- src/lib.rt:210:9
 rebuild-at-enum-told : (t : ℕ) → rebuild-at-lts.Need-enum-told (claims-rebuild-at t) (rebuild-at-at t) rebuild-at.Post
 rebuild-at-enum-told t c = search needs
 
--- src/lib.rt:210:9
 rebuild-at-bad-requires-2 : (t : ℕ) → rebuild-at-lts.Need-bad-requires-2 (claims-rebuild-at t) (rebuild-at-at t) rebuild-at.Post
 rebuild-at-bad-requires-2 t c κs = search needs
 
--- src/lib.rt:210:9
 rebuild-at-returns-2 : (t : ℕ) → rebuild-at-lts.Need-returns-2 (claims-rebuild-at t) (rebuild-at-at t) rebuild-at.Post
 rebuild-at-returns-2 t c =
     step-bad (c .before .before .before .before .before .before .args .s .now) (c .bad2 .result) _ (c .bad2 .ensures) (parse-bad _ _ (sym (c .before .before .before .record-at .ensures) ∙ c .before .enum-told .given .1))
 
--- src/lib.rt:212:17
 rebuild-at-add-start : (t : ℕ) → rebuild-at-lts.Need-add-start (claims-rebuild-at t) (rebuild-at-at t) rebuild-at.Post
 rebuild-at-add-start t c =
     let h = known t c in
     omega (arith, h .seen .fits)
 
--- src/lib.rt:213:16
 rebuild-at-add-next : (t : ℕ) → rebuild-at-lts.Need-add-next (claims-rebuild-at t) (rebuild-at-at t) rebuild-at.Post
 rebuild-at-add-next t c =
     let h = known t c in
     omega (arith, h .seen .fits)
 
--- src/lib.rt:215:37
 rebuild-at-sub-rebuild-at : (t : ℕ) → rebuild-at-lts.Need-sub-rebuild-at (claims-rebuild-at t) (rebuild-at-at t) rebuild-at.Post
 rebuild-at-sub-rebuild-at t c = search needs
 
--- src/lib.rt:215:13
 rebuild-at-rebuild-at-requires : (t : ℕ) → rebuild-at-lts.Need-rebuild-at-requires (claims-rebuild-at t) (rebuild-at-at t) rebuild-at.Post
 rebuild-at-rebuild-at-requires t c κs = search needs
 
--- src/lib.rt:218:13
 rebuild-at-bad-requires-3 : (t : ℕ) → rebuild-at-lts.Need-bad-requires-3 (claims-rebuild-at t) (rebuild-at-at t) rebuild-at.Post
 rebuild-at-bad-requires-3 t c κs = search needs
 
--- src/lib.rt:218:13
 rebuild-at-returns-3 : (t : ℕ) → rebuild-at-lts.Need-returns-3 (claims-rebuild-at t) (rebuild-at-at t) rebuild-at.Post
 rebuild-at-returns-3 t c =
     let r = c .before .before .before .before in
@@ -134,19 +121,15 @@ rebuild-at-returns-3 t c =
     let l = c .before .before .rebuild-at in
     step-bad (src t r) (c .bad3 .result) _ (c .bad3 .ensures) (at-fork (src t r) (at t r) (depth t r) (kind t r) (len t r) h (c .before .before .before .if2 .taken) ∙ fork-bad (src t r) (below t r) (l .result) (below t r (rest t r)) (l .ensures) (not-true _ (c .before .if3 .taken)))
 
--- src/lib.rt:221:39
 rebuild-at-sub-rebuild-at-2 : (t : ℕ) → rebuild-at-lts.Need-sub-rebuild-at-2 (claims-rebuild-at t) (rebuild-at-at t) rebuild-at.Post
 rebuild-at-sub-rebuild-at-2 t c = search needs
 
--- src/lib.rt:221:13
 rebuild-at-rebuild-at-requires-2 : (t : ℕ) → rebuild-at-lts.Need-rebuild-at-requires-2 (claims-rebuild-at t) (rebuild-at-at t) rebuild-at.Post
 rebuild-at-rebuild-at-requires-2 t c κs = search needs
 
--- src/lib.rt:222:9
 rebuild-at-join-fork-requires : (t : ℕ) → rebuild-at-lts.Need-join-fork-requires (claims-rebuild-at t) (rebuild-at-at t) rebuild-at.Post
 rebuild-at-join-fork-requires t c κs = search needs
 
--- src/lib.rt:222:9
 rebuild-at-returns-4 : (t : ℕ) → rebuild-at-lts.Need-returns-4 (claims-rebuild-at t) (rebuild-at-at t) rebuild-at.Post
 rebuild-at-returns-4 t c =
     let r = c .before .before .before .before .before in
@@ -155,22 +138,18 @@ rebuild-at-returns-4 t c =
     let m = c .before .rebuild-at2 in
     rw (at-fork (src t r) (at t r) (depth t r) (kind t r) (len t r) h (c .before .before .before .before .if2 .taken)) (step-fork (src t r) (below t r) (l .result) (m .result) (c .join-fork .result) (below t r (rest t r)) (left (src t r) (depth t r - 1) (at t r + 2 + len t r)) (l .ensures) (not-false _ (c .before .before .if3 .left)) (m .ensures) (c .join-fork .ensures))
 
--- src/lib.rt:225:37
 rebuild-at-sub-rebuild-at-3 : (t : ℕ) → rebuild-at-lts.Need-sub-rebuild-at-3 (claims-rebuild-at t) (rebuild-at-at t) rebuild-at.Post
 rebuild-at-sub-rebuild-at-3 t c = search needs
 
--- src/lib.rt:225:13
 rebuild-at-rebuild-at-requires-3 : (t : ℕ) → rebuild-at-lts.Need-rebuild-at-requires-3 (claims-rebuild-at t) (rebuild-at-at t) rebuild-at.Post
 rebuild-at-rebuild-at-requires-3 t c κs = search needs
 
--- src/lib.rt:226:9
 rebuild-at-join-labeled-requires : (t : ℕ) → rebuild-at-lts.Need-join-labeled-requires (claims-rebuild-at t) (rebuild-at-at t) rebuild-at.Post
 rebuild-at-join-labeled-requires t c κs =
     let r = c .before .before .before in
     let h = known t r in
     omega (arith, h .seen .fits)
 
--- src/lib.rt:226:9
 rebuild-at-returns-5 : (t : ℕ) → rebuild-at-lts.Need-returns-5 (claims-rebuild-at t) (rebuild-at-at t) rebuild-at.Post
 rebuild-at-returns-5 t c =
     let r = c .before .before .before .before in
@@ -178,14 +157,12 @@ rebuild-at-returns-5 t c =
     let m = c .before .rebuild-at3 in
     rw (at-labeled (src t r) (at t r) (depth t r) (kind t r) (len t r) h (c .before .before .if4 .taken)) (step-labeled (src t r) (below t r) (bytes t r) (m .result) (c .join-labeled .result) (below t r (rest t r)) (m .ensures) (rw (cut t r) at (c .join-labeled .ensures)))
 
--- src/lib.rt:228:5
 rebuild-at-single-requires : (t : ℕ) → rebuild-at-lts.Need-single-requires (claims-rebuild-at t) (rebuild-at-at t) rebuild-at.Post
 rebuild-at-single-requires t c κs =
     let r = c .before .before in
     let h = known t r in
     (omega arith, h .seen .fits, λ f. cut t r ∙ pruned (src t r) (at t r) (kind t r) (len t r) (h .seen) f)
 
--- src/lib.rt:203:1
 rebuild-at-returns-6 : (t : ℕ) → rebuild-at-lts.Need-returns-6 (claims-rebuild-at t) (rebuild-at-at t) rebuild-at.Post
 rebuild-at-returns-6 t c =
     let r = c .before .before .before in

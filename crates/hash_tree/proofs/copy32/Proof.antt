@@ -15,31 +15,24 @@ Inv-loop s d₀ i₀ d i = (i ≤ 32) × (length d ≡ 32) × (take i d ≡ take
 abbrev μ-loop : tie.MeasureT-loop
 μ-loop s d₀ i₀ d i = 32 - i
 
--- src/lib.rt:130:5
 loop-holds : tie.Need-loop-holds Inv-loop μ-loop
 loop-holds c = (search needs, search needs, refl)
 
--- src/lib.rt:131:16
 shared-slice-read-d : tie.Need-shared-slice-read-d Inv-loop μ-loop
 shared-slice-read-d c = search needs
 
--- src/lib.rt:131:9
 array-write-d : tie.Need-array-write-d Inv-loop μ-loop
 array-write-d c = search needs
 
--- src/lib.rt:132:9
 add-i : tie.Need-add-i Inv-loop μ-loop
 add-i c = search needs
 
--- src/lib.rt:130:5
 loop-less : tie.Need-loop-less Inv-loop μ-loop
 loop-less c = search needs
 
--- src/lib.rt:130:5
 loop-again : tie.Need-loop-again Inv-loop μ-loop
 loop-again c = (search needs, search needs, copy-next (c .before .before .loop .d) (c .before .before .before .args .s .now) (c .before .before .loop .i) (omega arith) (omega arith) (c .before .before .loop .inv .2))
 
--- src/lib.rt:124:1
 returns : tie.Need-returns Inv-loop μ-loop
 returns c =
     let e : c .before .loop .i ≡ 32 = omega arith in

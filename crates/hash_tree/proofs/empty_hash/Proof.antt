@@ -9,23 +9,18 @@ use Rattle.sha256.proofs.Sha256.finish.Reads as finish-reads
 use Rattle.sha256.proofs.Sha256.new.Reads as new-reads
 use Rattle.sha256.proofs.Sha256.update.Reads as update-reads
 
--- src/lib.rt:18:13
 new-requires : tie.Need-new-requires
 new-requires c κs = search needs
 
--- src/lib.rt:18:34
 slice-aggregate-update : tie.Need-slice-aggregate-update
 slice-aggregate-update c = search needs
 
--- src/lib.rt:18:9
 update-requires : tie.Need-update-requires
 update-requires c κs = search needs
 
--- src/lib.rt:19:5
 finish-requires : tie.Need-finish-requires
 finish-requires c κs = search needs
 
--- src/lib.rt:15:1
 returns : tie.Need-returns
 unfolding emptyHash
 returns c =

@@ -9,32 +9,25 @@ use Rattle.hash_tree.proofs.bad.Reads as bad-reads
 use Rattle.hash_tree.proofs.fork_hash.Reads as fork-hash-reads
 use Rattle.hash_tree.proofs.good.Reads as good-reads
 
--- src/lib.rt:164:9
 bad-requires : tie.Need-bad-requires
 bad-requires c κs = search needs
 
--- src/lib.rt:164:9
 returns : tie.Need-returns
 returns c =
     c .bad .ensures ∙ rw (not-true (c .before .before .args .r .ok) (c .before .if1 .taken))
 
--- src/lib.rt:168:28
 slice-aggregate-fork-hash : tie.Need-slice-aggregate-fork-hash
 slice-aggregate-fork-hash c = search needs
 
--- src/lib.rt:168:33
 slice-aggregate-fork-hash-2 : tie.Need-slice-aggregate-fork-hash-2
 slice-aggregate-fork-hash-2 c = search needs
 
--- src/lib.rt:168:18
 fork-hash-requires : tie.Need-fork-hash-requires
 fork-hash-requires c κs = search needs
 
--- src/lib.rt:168:5
 good-requires : tie.Need-good-requires
 good-requires c κs = search needs
 
--- src/lib.rt:159:1
 returns-2 : tie.Need-returns-2
 returns-2 c =
     c .good2 .ensures ∙ rw (not-false (c .before .before .before .before .before .before .before .args .r .ok) (c .before .before .before .before .before .before .if1 .left), c .before .fork-hash .ensures)

@@ -9,40 +9,31 @@ use Rattle.hash_tree.proofs.bad.Reads as bad-reads
 use Rattle.hash_tree.proofs.good.Reads as good-reads
 use Rattle.hash_tree.proofs.labeled_hash.Reads as labeled-hash-reads
 
--- src/lib.rt:178:9
 bad-requires : tie.Need-bad-requires
 bad-requires c κs = search needs
 
--- src/lib.rt:178:9
 returns : tie.Need-returns
 returns c =
     c .bad .ensures ∙ rw (not-true (c .before .before .before .args .t .ok) (c .before .if1 .taken))
 
--- src/lib.rt:181:31
 sub-labeled-hash : tie.Need-sub-labeled-hash
 sub-labeled-hash c = search needs
 
--- src/lib.rt:181:31
 part-labeled-hash-start : tie.Need-part-labeled-hash-start
 part-labeled-hash-start c = search needs
 
--- src/lib.rt:181:31
 part-labeled-hash-end : tie.Need-part-labeled-hash-end
 part-labeled-hash-end c = search needs
 
--- src/lib.rt:181:47
 slice-aggregate-labeled-hash : tie.Need-slice-aggregate-labeled-hash
 slice-aggregate-labeled-hash c = search needs
 
--- src/lib.rt:181:18
 labeled-hash-requires : tie.Need-labeled-hash-requires
 labeled-hash-requires c κs = search needs
 
--- src/lib.rt:181:5
 good-requires : tie.Need-good-requires
 good-requires c κs = search needs
 
--- src/lib.rt:172:1
 returns-2 : tie.Need-returns-2
 returns-2 c =
     c .good2 .ensures ∙ rw (not-false (c .before .before .before .before .before .before .before .args .t .ok) (c .before .before .before .before .before .if1 .left), c .before .labeled-hash .ensures)

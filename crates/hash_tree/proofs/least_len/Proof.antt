@@ -5,12 +5,10 @@ use Rattle.hash_tree.proofs.least_len.Tie as tie
 use Rattle.hash_tree.proofs.least_len.Reads as reads
 use Rattle.hash_tree.proofs.least_len.Lts as lts
 
--- src/lib.rt:20:1
 returns : tie.Need-returns
 unfolding least
 returns c = simp (eq-eqb _ _ (c .if1 .taken))
 
--- src/lib.rt:20:1
 returns-2 : tie.Need-returns-2
 unfolding least
 returns-2 c = simp (ne-eqb _ _ (c .if1 .left))

@@ -5,22 +5,18 @@ use Rattle.hash_tree.proofs.most_len.Tie as tie
 use Rattle.hash_tree.proofs.most_len.Reads as reads
 use Rattle.hash_tree.proofs.most_len.Lts as lts
 
--- src/lib.rt:26:1
 returns : tie.Need-returns
 unfolding most
 returns c = simp (eq-eqb _ _ (c .if1 .taken))
 
--- src/lib.rt:26:1
 returns-2 : tie.Need-returns-2
 unfolding most
 returns-2 c = simp (ne-eqb _ _ (c .before .if1 .left), eq-eqb _ _ (c .if2 .taken))
 
--- src/lib.rt:26:1
 returns-3 : tie.Need-returns-3
 unfolding most
 returns-3 c = simp (ne-eqb _ _ (c .before .before .if1 .left), ne-eqb _ _ (c .before .if2 .left), eq-eqb _ _ (c .if3 .taken))
 
--- src/lib.rt:26:1
 returns-4 : tie.Need-returns-4
 unfolding most
 returns-4 c = simp (ne-eqb _ _ (c .before .before .if1 .left), ne-eqb _ _ (c .before .if2 .left), ne-eqb _ _ (c .if3 .left))

@@ -9,40 +9,33 @@ use Rattle.hash_tree.proofs.next_at.Reads as reads
 use Rattle.hash_tree.proofs.next_at.Lts as lts
 use Rattle.hash_tree.proofs.record_at.Reads as record-at-reads
 
--- src/lib.rt:129:42
 record-at-requires : tie.Need-record-at-requires
 record-at-requires c κs = search needs
 
--- src/lib.rt:129:34
 enum-known-len : tie.Need-enum-known-len
 enum-known-len c = search needs
 
--- src/lib.rt:130:9
 enum-told : tie.Need-enum-told
 enum-told c = search needs
 
--- src/lib.rt:130:9
 returns : tie.Need-returns
 unfolding placeAfter
 returns c =
     let a = c .before .before .before .before .args in
     sym (ap (afterRecord (a .at)) (sym (c .before .before .record-at .ensures) ∙ c .enum-told .given .1))
 
--- src/lib.rt:132:5
 add-result : tie.Need-add-result
 add-result c =
     let a = c .before .before .before .before .before .args in
     let h = seen (a .s .now) (a .at) _ _ (sym (c .before .before .before .record-at .ensures) ∙ c .before .len .given .1) in
     omega (arith, h .fits)
 
--- src/lib.rt:132:5
 add-result-2 : tie.Need-add-result-2
 add-result-2 c =
     let a = c .before .before .before .before .before .args in
     let h = seen (a .s .now) (a .at) _ _ (sym (c .before .before .before .record-at .ensures) ∙ c .before .len .given .1) in
     omega (arith, h .fits)
 
--- src/lib.rt:126:1
 returns-2 : tie.Need-returns-2
 unfolding placeAfter
 returns-2 c =

@@ -12,33 +12,27 @@ use Rattle.hash_tree.proofs.rebuild.Lts as lts
 use Rattle.hash_tree.proofs.rebuild_at.Reads as rebuild-at-reads
 use Rattle.hash_tree.proofs.refuse.Reads as refuse-reads
 
--- src/lib.rt:250:9
 rebuild-at-requires : tie.Need-rebuild-at-requires
 rebuild-at-requires c κs = search needs
 
--- src/lib.rt:253:9
 refuse-requires : tie.Need-refuse-requires
 refuse-requires c κs = search needs
 
--- src/lib.rt:253:9
 returns : tie.Need-returns
 unfolding rebuilt
 returns c =
     let s = c .before .before .before .before .args .witness .now in
     c .refuse .ensures ∙ sym (none-alone s (c .before .before .rebuild-at .result) (parse maxDepth s) (c .before .before .rebuild-at .ensures) (not-true _ (c .before .if1 .taken)))
 
--- src/lib.rt:257:9
 refuse-requires-2 : tie.Need-refuse-requires-2
 refuse-requires-2 c κs = search needs
 
--- src/lib.rt:257:9
 returns-2 : tie.Need-returns-2
 unfolding rebuilt
 returns-2 c =
     let s = c .before .before .before .before .before .args .witness .now in
     c .refuse2 .ensures ∙ sym (more-alone s (c .before .before .before .rebuild-at .result) (parse maxDepth s) (c .before .before .before .rebuild-at .ensures) (c .before .if2 .taken))
 
--- src/lib.rt:247:1
 returns-3 : tie.Need-returns-3
 unfolding rebuilt
 returns-3 c =

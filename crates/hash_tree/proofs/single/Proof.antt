@@ -14,75 +14,58 @@ use Rattle.hash_tree.proofs.empty_hash.Reads as empty-hash-reads
 use Rattle.hash_tree.proofs.good.Reads as good-reads
 use Rattle.hash_tree.proofs.leaf_hash.Reads as leaf-hash-reads
 
--- src/lib.rt:190:26
 empty-hash-requires : tie.Need-empty-hash-requires
 empty-hash-requires c κs = search needs
 
--- src/lib.rt:190:9
 good-requires : tie.Need-good-requires
 good-requires c κs = search needs
 
--- src/lib.rt:190:9
 returns : tie.Need-returns
 returns c =
     c .good2 .ensures ∙ rw (eq-eqb _ _ (c .before .before .if1 .taken), c .before .empty-hash .ensures)
 
--- src/lib.rt:193:36
 sub-leaf-hash : tie.Need-sub-leaf-hash
 sub-leaf-hash c = search needs
 
--- src/lib.rt:193:36
 part-leaf-hash-start : tie.Need-part-leaf-hash-start
 part-leaf-hash-start c = search needs
 
--- src/lib.rt:193:36
 part-leaf-hash-end : tie.Need-part-leaf-hash-end
 part-leaf-hash-end c = search needs
 
--- src/lib.rt:193:26
 leaf-hash-requires : tie.Need-leaf-hash-requires
 leaf-hash-requires c κs = search needs
 
--- src/lib.rt:193:9
 good-requires-2 : tie.Need-good-requires-2
 good-requires-2 c κs = search needs
 
--- src/lib.rt:193:9
 returns-2 : tie.Need-returns-2
 returns-2 c =
     c .good3 .ensures ∙ rw (ne-eqb _ _ (c .before .before .before .before .if1 .left), eq-eqb _ _ (c .before .before .before .if2 .taken), c .before .leaf-hash .ensures)
 
--- src/lib.rt:196:33
 sub-copy32 : tie.Need-sub-copy32
 sub-copy32 c = search needs
 
--- src/lib.rt:196:33
 part-copy32-start : tie.Need-part-copy32-start
 part-copy32-start c = search needs
 
--- src/lib.rt:196:33
 part-copy32-end : tie.Need-part-copy32-end
 part-copy32-end c = search needs
 
--- src/lib.rt:196:26
 copy32-requires : tie.Need-copy32-requires
 copy32-requires c κs =
     length-take-le _ _ (rw length-drop (omega arith)) ∙ c .before .before .before .before .before .pre .2 (c .before .if3 .taken)
 
--- src/lib.rt:196:9
 good-requires-3 : tie.Need-good-requires-3
 good-requires-3 c κs = search needs
 
--- src/lib.rt:196:9
 returns-3 : tie.Need-returns-3
 returns-3 c =
     c .good4 .ensures ∙ rw (ne-eqb _ _ (c .before .before .before .before .before .if1 .left), ne-eqb _ _ (c .before .before .before .before .if2 .left), eq-eqb _ _ (c .before .before .before .if3 .taken), c .before .copy32 .ensures)
 
--- src/lib.rt:198:5
 bad-requires : tie.Need-bad-requires
 bad-requires c κs = search needs
 
--- src/lib.rt:185:1
 returns-4 : tie.Need-returns-4
 returns-4 c =
     c .bad .ensures ∙ rw (ne-eqb _ _ (c .before .before .before .if1 .left), ne-eqb _ _ (c .before .before .if2 .left), ne-eqb _ _ (c .before .if3 .left))

@@ -3,11 +3,11 @@ use mathlib.Core.List.{[]}
 use lib.Dec.{eqb}
 use borrow.Author.Needs.{needs}
 use borrow.Author.Tests.{eqb-false}
-use Rattle.hash_tree.specs.ParseLaws.{length-piece}
+use Rattle.hash_tree.proofs.ParseLaws.{length-piece}
 use Rattle.llrb.specs.Tree.{left, right}
 use Rattle.store.specs.Decode.{entriesBelow}
 use Rattle.witness.proofs.Lengths.{hidden-length}
-use Rattle.witness.proofs.Putting.{room-zero}
+use Rattle.output.proofs.Putting.{room-zero}
 use Rattle.witness.proofs.Stepping.{parts-in, nil-bytes, hidden-bytes, nothing-at, hidden-at, left-lies, right-lies, less-left, less-right, node-entry, falls-to, fit-node}
 use Prim.Native.Nat.{ℕ, _<_}
 use borrow.Fn.Kinds.{In}
@@ -19,7 +19,7 @@ use Rattle.slots.proofs.left.Reads as left-reads
 use Rattle.slots.proofs.right.Reads as right-reads
 use Rattle.witness.proofs.fork_len.Reads as fork-len-reads
 use Rattle.witness.proofs.hidden_len.Reads as hidden-len-reads
-use Rattle.witness.proofs.less.Reads as less-reads
+use Rattle.output.proofs.less.Reads as less-reads
 use Rattle.witness.proofs.middle_len.Reads as middle-len-reads
 use Rattle.witness_walks.proofs.records_at.Reads as records-at-reads
 use Rattle.witness.proofs.+fit.{statement}

@@ -1,10 +1,10 @@
 use mathlib.Core.List.{[]}
 use native.Mathlib.Omega.{arith}
 use borrow.Author.Needs.{needs}
-use Rattle.hash_tree.specs.ParseLaws.{length-piece}
+use Rattle.hash_tree.proofs.ParseLaws.{length-piece}
 use Rattle.llrb.specs.Tree.{left, right}
 use Rattle.store.specs.Decode.{entriesBelow}
-use Rattle.witness.proofs.Putting.{puts-none, puts-empty}
+use Rattle.output.proofs.Putting.{puts-none, puts-empty}
 use Rattle.witness.proofs.Stepping.{parts-in, nil-bytes, hidden-bytes, nothing-at, hidden-at, left-lies, right-lies, less-left, less-right, node-entry, node-middle, falls-to, write-node, room₁, room₂, room₃, room₄, room₅}
 use Prim.Native.Nat.{ℕ, _<_}
 use borrow.Fn.Kinds.{In}
@@ -15,7 +15,7 @@ use Rattle.witness.proofs.+write_tree.Lts-write_tree as write-tree-lts
 use Rattle.slots.proofs.left.Reads as left-reads
 use Rattle.slots.proofs.right.Reads as right-reads
 use Rattle.witness.proofs.put_fork.Reads as put-fork-reads
-use Rattle.witness.proofs.put_head.Reads as put-head-reads
+use Rattle.output.proofs.put_head.Reads as put-head-reads
 use Rattle.witness.proofs.put_hidden.Reads as put-hidden-reads
 use Rattle.witness.proofs.put_middle.Reads as put-middle-reads
 use Rattle.witness_walks.proofs.records_at.Reads as records-at-reads

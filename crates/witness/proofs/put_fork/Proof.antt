@@ -1,12 +1,12 @@
 use native.Mathlib.Omega.{arith}
 use Rattle.hash_tree.specs.Written.{piece}
-use Rattle.witness.proofs.Putting.{puts-none}
+use Rattle.output.proofs.Putting.{puts-none}
 use borrow.Author.Needs.{needs}
 use Rattle.witness.proofs.put_fork.Statement.{statement}
 use Rattle.witness.proofs.put_fork.Tie as tie
 use Rattle.witness.proofs.put_fork.Reads as reads
 use Rattle.witness.proofs.put_fork.Lts as lts
-use Rattle.witness.proofs.put_head.Reads as put-head-reads
+use Rattle.output.proofs.put_head.Reads as put-head-reads
 
 put-head-requires : tie.Need-put-head-requires
 unfolding piece

@@ -2,7 +2,7 @@ use mathlib.Core.List.{[]}
 use native.Mathlib.Omega.{arith}
 use borrow.Author.Tests.{ne-eqb}
 use Rattle.hash_tree.specs.Written.{piece}
-use Rattle.hash_tree.specs.ParseLaws.{length-piece}
+use Rattle.hash_tree.proofs.ParseLaws.{length-piece}
 use Rattle.slots.proofs.Lenses.{digest-length}
 use borrow.Author.Needs.{needs}
 use Rattle.witness.proofs.put_hidden.Statement.{statement}
@@ -10,8 +10,8 @@ use Rattle.witness.proofs.put_hidden.Tie as tie
 use Rattle.witness.proofs.put_hidden.Reads as reads
 use Rattle.witness.proofs.put_hidden.Lts as lts
 use Rattle.slots.proofs.digest.Reads as digest-reads
-use Rattle.witness.proofs.put_head.Reads as put-head-reads
-use Rattle.witness.proofs.put_piece.Reads as put-piece-reads
+use Rattle.output.proofs.put_head.Reads as put-head-reads
+use Rattle.output.proofs.put_piece.Reads as put-piece-reads
 
 put-head-requires : tie.Need-put-head-requires
 put-head-requires c κs =

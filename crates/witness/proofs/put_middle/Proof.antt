@@ -14,7 +14,7 @@ use Rattle.hash_tree.proofs.fork_hash.Reads as fork-hash-reads
 use Rattle.slots.proofs.digest.Reads as digest-reads
 use Rattle.slots.proofs.right.Reads as right-reads
 use Rattle.witness.proofs.data_hash.Reads as data-hash-reads
-use Rattle.witness.proofs.put_piece.Reads as put-piece-reads
+use Rattle.output.proofs.put_piece.Reads as put-piece-reads
 use Rattle.witness.proofs.put_shown.Reads as put-shown-reads
 
 enum-known-middle : tie.Need-enum-known-middle

@@ -2,9 +2,9 @@ use native.Mathlib.Omega.{arith}
 use Rattle.slots.specs.Layout.{slot, keyOf, valueOf}
 use Rattle.hash_tree.specs.HashTree.{leafHash}
 use Rattle.hash_tree.specs.Written.{piece}
-use Rattle.hash_tree.specs.DigestLaws.{leafHash-length}
+use Rattle.hash_tree.proofs.DigestLaws.{leafHash-length}
 use Rattle.witness.proofs.Lengths.{key-short, value-short, hide-bytes, label-bytes, show-bytes, data-length}
-use Rattle.witness.proofs.Putting.{puts-then}
+use Rattle.output.proofs.Putting.{puts-then}
 use Rattle.witness.proofs.Stepping.{front, rest}
 use borrow.Author.Needs.{needs}
 use Rattle.witness.proofs.put_shown.Statement.{statement}
@@ -15,7 +15,7 @@ use Rattle.hash_tree.proofs.leaf_hash.Reads as leaf-hash-reads
 use Rattle.slots.proofs.key.Reads as key-reads
 use Rattle.slots.proofs.value.Reads as value-reads
 use Rattle.witness.proofs.data_hash.Reads as data-hash-reads
-use Rattle.witness.proofs.put_piece.Reads as put-piece-reads
+use Rattle.output.proofs.put_piece.Reads as put-piece-reads
 
 enum-told : tie.Need-enum-told
 enum-told c = search needs

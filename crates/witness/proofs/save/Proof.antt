@@ -3,7 +3,7 @@ use native.Mathlib.Omega.{arith}
 use lib.ListN.{length}
 use Rattle.witness_walks.specs.declared.Part.the-variants.{Walked}
 use Rattle.witness.specs.Putting.{bytesBelow}
-use Rattle.witness.proofs.Putting.{room-left, room-short}
+use Rattle.output.proofs.Putting.{room-left, room-short}
 use Rattle.witness.proofs.Saving.{front-short, front-put}
 use borrow.Author.Needs.{needs}
 use Rattle.witness.proofs.save.Statement.{statement}

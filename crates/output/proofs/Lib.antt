@@ -1,0 +1,2 @@
+-- Bytes put one after the other, and the room that they leave.
+pub mod Putting

@@ -1,0 +1,2 @@
+-- What writes to an output.
+pub mod Putting
