@@ -4,20 +4,18 @@ use mathlib.Core.Bool.{Bool, true, false, not, true≢false}
 use mathlib.Core.List.{List}
 use Prim.Native.Nat.{ℕ, zero, suc, _-_, _≤_}
 use native.Mathlib.Omega.{arith}
-use lib.Dec.{eqb}
-use lib.ListN.{length, take, length-append}
-use borrow.Author.Tests.{eq-eqb, ne-eqb}
+use lib.ListN.{length, length-append}
 use Rattle.key_order.specs.Order.{Key, pick, cmp, isSame, isBelow}
 use Rattle.key_order.specs.declared.Ordering.{Ordering}
 use Rattle.key_order.specs.declared.Ordering.the-variants.{Less}
 use Rattle.key_order.proofs.Laws.{same-refl, same-eq, below-less}
-use Rattle.hash_tree.specs.HashTree.{Digest, forkHash, labeledHash, leafHash}
+use Rattle.hash_tree.specs.HashTree.{Digest}
 use Rattle.slots.specs.declared.Head.{Head}
 use Rattle.slots.specs.Layout.{HasSlot, Decides, Slot, slot, headOf, keyOf, valueOf, digestOf, padded, zeros, IsEntry}
 use Rattle.slots.proofs.Lenses.{slot-fits}
-use Rattle.llrb.specs.Digests.{nodeDigest}
+use Rattle.entries.specs.Digests.{LinksIn, computeSubtreeHash}
 use Rattle.judge.specs.Rising.{Bound, over, Past}
-use Rattle.judge.specs.Steps.{Sized, ShortHead, linkedDigest, NodeOk, boundOf}
+use Rattle.judge.specs.Steps.{Sized, NodeOk, boundOf}
 
 -- a colour that is free
 pub any-colour : (red black : Bool) → not black ≡ true → black ≡ true → red ≡ false
@@ -38,21 +36,6 @@ same-decides a b false e = λ h. true≢false (sym (e ∙ ap (isSame a) (sym h) 
 pub below-decides : (a b : Key) (r : Bool) → r ≡ isBelow a b → Decides r (cmp a b ≡ Less)
 below-decides a b true e = below-less a b (sym e)
 below-decides a b false e = λ h. true≢false (sym (e ∙ ap (λ (o : Ordering). pick o true false false) h))
-
--- ---- the digest by the links
-
-module _ (l r : ℕ) (dl d dr : Digest) where
-  pub fork-none : l ≡ 0 → r ≡ 0 → d ≡ nodeDigest (eqb l 0) (eqb r 0) dl d dr
-  fork-none a b = rw (eq-eqb l 0 a, eq-eqb r 0 b)
-
-  pub fork-right : l ≡ 0 → (r ≡ 0 → ⊥) → {x : Digest} → x ≡ forkHash d dr → x ≡ nodeDigest (eqb l 0) (eqb r 0) dl d dr
-  fork-right a b e = rw (eq-eqb l 0 a, ne-eqb r 0 b) e
-
-  pub fork-left : (l ≡ 0 → ⊥) → r ≡ 0 → {x : Digest} → x ≡ forkHash dl d → x ≡ nodeDigest (eqb l 0) (eqb r 0) dl d dr
-  fork-left a b e = rw (ne-eqb l 0 a, eq-eqb r 0 b) e
-
-  pub fork-both : (l ≡ 0 → ⊥) → (r ≡ 0 → ⊥) → {x f : Digest} → f ≡ forkHash d dr → x ≡ forkHash dl f → x ≡ nodeDigest (eqb l 0) (eqb r 0) dl d dr
-  fork-both a b ef e = rw (ne-eqb l 0 a, ne-eqb r 0 b) (e ∙ ap (forkHash dl) ef)
 
 -- ---- one node
 
@@ -98,31 +81,19 @@ module _ (s : List ℕ) (cap i : ℕ) (k : Bool) {h : Head} (e : h ≡ headOf (s
   pub right-within : NodeOk s cap i k → h .right ≤ cap
   right-within a = omega (arith, right-of, a .right)
 
-  pub short-head : HasSlot (length s) i → h .left ≤ cap → h .right ≤ cap → IsEntry s i → ShortHead cap h
-  short-head p l r a =
+  pub links-in : Sized (length s) cap → HasSlot (length s) i → h .left ≤ cap → h .right ≤ cap → IsEntry s i → LinksIn s i
+  links-in z p l r a =
       record {
-        key = omega (arith, key-length-of, entry-key s i p a);
-        value = omega (arith, value-length-of, entry-value s i p a);
-        left = l;
-        right = r;
+        here = p;
+        left = λ n. has-slot z (omega arith) (omega (arith, left-of));
+        right = λ n. has-slot z (omega arith) (omega (arith, right-of));
+        key = entry-key s i p a;
+        value = entry-value s i p a;
       }
 
-  pub node-made : (k ≡ true → h .red ≡ false) → h .left ≤ cap → h .right ≤ cap → IsEntry s i → {d : Digest} → d ≡ linkedDigest s (slot s i) → digestOf s i ≡ d → NodeOk s cap i k
+  pub node-made : (k ≡ true → h .red ≡ false) → h .left ≤ cap → h .right ≤ cap → IsEntry s i → {d : Digest} → d ≡ computeSubtreeHash s i → digestOf s i ≡ d → NodeOk s cap i k
   node-made c l r a x y =
       record { entry = a; colour = λ z. sym red-of ∙ c z; left = omega (arith, left-of); right = omega (arith, right-of); digest = y ∙ x }
-
-  -- the parts that a digest is made of
-  pub linked-is : {key value leaf d x : List ℕ} → value ≡ take (h .«value_length») (slot s i .valueRoom) → key ≡ take (h .«key_length») (slot s i .keyRoom)
-      → leaf ≡ leafHash value → d ≡ labeledHash key leaf → x ≡ nodeDigest (eqb (h .left) 0) (eqb (h .right) 0) (digestOf s (h .left)) d (digestOf s (h .right))
-      → x ≡ linkedDigest s (slot s i)
-  unfolding linkedDigest
-  linked-is {key} {value} {leaf} {d} {x} ev ek el ed ex =
-      let l = left-of in
-      let r = right-of in
-      let v : value ≡ valueOf (slot s i) = ev ∙ ap (λ (n : ℕ). take n (slot s i .valueRoom)) value-length-of in
-      let y : key ≡ keyOf (slot s i) = ek ∙ ap (λ (n : ℕ). take n (slot s i .keyRoom)) key-length-of in
-      let f : d ≡ labeledHash (keyOf (slot s i)) (leafHash (valueOf (slot s i))) = ed ∙ (λ j. labeledHash (y j) (el j)) ∙ ap (λ (z : List ℕ). labeledHash (keyOf (slot s i)) (leafHash z)) v in
-      ex ∙ (λ j. nodeDigest (eqb (l j) 0) (eqb (r j) 0) (digestOf s (l j)) (f j) (digestOf s (r j)))
 
 -- ---- the order
 

@@ -1,16 +1,17 @@
 -- The walk over a subtree: what it found on the way is the tree, and where it stopped there is none.
 use mathlib.Core.Path.{_≡_, refl, sym, ap, subst, _∙_}
-use mathlib.Core.Bool.{Bool, true, false, cond}
+use mathlib.Core.Bool.{Bool, true, false, cond, true≢false}
 use mathlib.Core.List.{List}
 use Prim.Native.Nat.{ℕ, _+_, _-_, _≤_, _<_}
 use native.Mathlib.Omega.{arith}
 use lib.Dec.{eqb}
 use borrow.Author.Tests.{eqb-true, eqb-false, ne-eqb, eq-eqb}
-use Rattle.hash_tree.specs.HashTree.{Digest, forkHash, labeledHash, leafHash}
 use Rattle.slots.specs.Layout.{Slot, slot, digestOf, keyOf, valueOf, nodeSlot, IsEntry}
 use Rattle.llrb.specs.Tree.{Entry, Tree, nil, node, isRed, entries, size}
 use Rattle.llrb.specs.Shape.{Blacks, SameBlacks, height}
-use Rattle.llrb.specs.Digests.{isNil, nodeDigest, subtreeDigest}
+use Rattle.llrb.specs.Digests.{isNil, subtreeDigest}
+use Rattle.entries.specs.Digests.{computeSubtreeHash}
+use Rattle.entries.proofs.Laws.{subtree-right}
 use Rattle.store.specs.Model.{root}
 use Rattle.store.specs.Sound.{Digests}
 use Rattle.slots.proofs.Writing.{node-key, node-value}
@@ -18,7 +19,7 @@ use Rattle.llrb.proofs.Height.{size-node}
 use Rattle.judge.specs.declared.Trail.{Trail}
 use Rattle.judge.specs.declared.Trail.the-variants.{Got, Bad}
 use Rattle.judge.specs.Rising.{Bound, none, over, Past, Rising, lastOf}
-use Rattle.judge.specs.Steps.{linkedDigest, NodeOk, Within, Good, boundOf, Met, Seen, Fits, WalkSays, blacksFrom, joined}
+use Rattle.judge.specs.Steps.{NodeOk, Within, Good, boundOf, Met, Seen, Fits, WalkSays, blacksFrom, joined}
 use Rattle.judge.proofs.Order.{rising-join, rising-split, last-join}
 use Rattle.judge.proofs.Unique.{tree-same}
 use Rattle.judge.proofs.Testing.{bound-pos}
@@ -32,16 +33,14 @@ root-within cap (node c e l r) a = a .0 .1
 no-link : (x : ℕ) → 1 ≤ x → eqb x 0 ≡ false
 no-link x p = ne-eqb x 0 (λ e. omega arith)
 
--- stored digests of the children, for the digests of their subtrees
-linked-digest : (s : List ℕ) (cap : ℕ) (l r : Tree) (d : Digest) → Within cap l → Within cap r → Digests s l → Digests s r
-    → nodeDigest (eqb (root l) 0) (eqb (root r) 0) (digestOf s (root l)) d (digestOf s (root r)) ≡ nodeDigest (isNil l) (isNil r) (subtreeDigest l) d (subtreeDigest r)
-linked-digest s cap nil nil d v w a b = refl
-linked-digest s cap nil (node c e l r) d v w a b = rw (no-link (e .slot) (w .0 .0)) (ap (forkHash d) (b .0))
-linked-digest s cap (node c e l r) nil d v w a b = rw (no-link (e .slot) (v .0 .0)) (ap (λ (z : Digest). forkHash z d) (a .0))
-linked-digest s cap (node c e l r) (node c′ e′ l′ r′) d v w a b =
-    let ea = a .0 in
-    let eb = b .0 in
-    rw (no-link (e .slot) (v .0 .0), no-link (e′ .slot) (w .0 .0)) (λ i. forkHash (ea i) (forkHash d (eb i)))
+link-nil : (cap : ℕ) (t : Tree) → Within cap t → {x : ℕ} → x ≡ root t → eqb x 0 ≡ isNil t
+link-nil cap nil w p = eq-eqb _ 0 p
+link-nil cap (node c e l r) w p = ap (λ (x : ℕ). eqb x 0) p ∙ no-link (e .slot) (w .0 .0)
+
+-- the stored digest of a child, where there is one
+child-digest : (s : List ℕ) (t : Tree) → Digests s t → {x : ℕ} → x ≡ root t → isNil t ≡ false → digestOf s x ≡ subtreeDigest t
+child-digest s nil d p n = absurd (true≢false n)
+child-digest s (node c e l r) d p n = ap (digestOf s) p ∙ d .0
 
 -- ---- one node of a tree, as its slot tells
 
@@ -79,15 +78,10 @@ module _ (s : List ℕ) (cap : ℕ) (c : Bool) (e : Entry) (l r : Tree) (g : Goo
       let er = right-is in
       there ∙ sym (λ i. nodeSlot (ec i) (ek i) (ev i) (el i) (er i))
 
-  digest-is : linkedDigest s (slot s (e .slot)) ≡ subtreeDigest (node c e l r)
-  unfolding linkedDigest subtreeDigest
+  digest-is : computeSubtreeHash s (e .slot) ≡ subtreeDigest (node c e l r)
   digest-is =
-      let ek = key-is in
-      let ev = value-is in
-      let el = left-is in
-      let er = right-is in
-      (λ i. nodeDigest (eqb (el i) 0) (eqb (er i) 0) (digestOf s (el i)) (labeledHash (ek i) (leafHash (ev i))) (digestOf s (er i)))
-      ∙ linked-digest s cap l r (labeledHash (e .key) (leafHash (e .value))) (g .within .1) (g .within .2) (g .digests .1) (g .digests .2)
+      subtree-right s (e .slot) c e l r key-is value-is (link-nil cap l (g .within .1) left-is) (link-nil cap r (g .within .2) right-is)
+      (child-digest s l (g .digests .1) left-is) (child-digest s r (g .digests .2) right-is)
 
   pub node-of : (k : Bool) → (k ≡ true → c ≡ false) → NodeOk s cap (e .slot) k
   node-of k b =
@@ -109,11 +103,10 @@ module _ (s : List ℕ) (cap h : ℕ) (k : Bool) (low : 1 ≤ h) (high : h ≤ c
   here = ok .entry ∙ (λ i. nodeSlot (slot s h .red) (keyOf (slot s h)) (valueOf (slot s h)) (sym tl i) (sym tr i))
 
   digest-here : digestOf s h ≡ subtreeDigest (node (slot s h .red) (entryAt s h) l r)
-  unfolding linkedDigest subtreeDigest
   digest-here =
       ok .digest
-      ∙ (λ i. nodeDigest (eqb (sym tl i) 0) (eqb (sym tr i) 0) (digestOf s (sym tl i)) (labeledHash (keyOf (slot s h)) (leafHash (valueOf (slot s h)))) (digestOf s (sym tr i)))
-      ∙ linked-digest s cap l r (labeledHash (keyOf (slot s h)) (leafHash (valueOf (slot s h)))) (gl .within) (gr .within) (gl .digests) (gr .digests)
+      ∙ subtree-right s h (slot s h .red) (entryAt s h) l r refl refl (link-nil cap l (gl .within) (sym tl)) (link-nil cap r (gr .within) (sym tr))
+      (child-digest s l (gl .digests) (sym tl)) (child-digest s r (gr .digests) (sym tr))
 
   pub node-good : Good s cap (node (slot s h .red) (entryAt s h) l r)
   node-good =

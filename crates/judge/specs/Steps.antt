@@ -5,13 +5,11 @@ use mathlib.Core.List.{List, [], _∷_}
 use Prim.Native.Nat.{ℕ, zero, suc, _+_, _≤_}
 use lib.Dec.{eqb}
 use lib.ListN.{length}
-use Rattle.hash_tree.specs.HashTree.{Digest, labeledHash, leafHash}
 use Rattle.slots.specs.declared.Header.{Header}
-use Rattle.slots.specs.declared.Head.{Head}
-use Rattle.slots.specs.Layout.{storeLength, Slot, slot, digestOf, keyOf, valueOf, IsEntry, IsFree}
+use Rattle.slots.specs.Layout.{storeLength, slot, digestOf, keyOf, IsEntry, IsFree}
 use Rattle.llrb.specs.Tree.{Tree, nil, node, isRed, entries, size}
 use Rattle.llrb.specs.Shape.{RedsApart, LeansLeft, Blacks, SameBlacks, height}
-use Rattle.llrb.specs.Digests.{nodeDigest}
+use Rattle.entries.specs.Digests.{computeSubtreeHash}
 use Rattle.store.specs.Model.{root, head}
 use Rattle.store.specs.Sound.{Nodes, Digests, Chain}
 use Rattle.judge.specs.declared.Trail.{Trail}
@@ -25,25 +23,13 @@ pub record Sized (n cap : ℕ) : Type 0 where
 
 -- ---- one node
 
--- the digest of the node in a slot, from the stored digests of the slots that its links name; a link 0 names nothing
-unfoldable pub linkedDigest : List ℕ → Slot → Digest
-linkedDigest s v =
-    nodeDigest (eqb (v .left) 0) (eqb (v .right) 0) (digestOf s (v .left)) (labeledHash (keyOf v) (leafHash (valueOf v))) (digestOf s (v .right))
-
--- the lengths fit the rooms, the links are slots of the store
-pub record ShortHead (cap : ℕ) (h : Head) : Type 0 where
-  pub key : h .«key_length» ≤ 48
-  pub value : h .«value_length» ≤ 64
-  pub left : h .left ≤ cap
-  pub right : h .right ≤ cap
-
 -- a node by itself; `black` where its parent wants it black
 pub record NodeOk (s : List ℕ) (cap h : ℕ) (black : Bool) : Type 0 where
   pub entry : IsEntry s h
   pub colour : black ≡ true → slot s h .red ≡ false
   pub left : slot s h .left ≤ cap
   pub right : slot s h .right ≤ cap
-  pub digest : digestOf s h ≡ linkedDigest s (slot s h)
+  pub digest : digestOf s h ≡ computeSubtreeHash s h
 
 -- ---- a subtree
 

@@ -3,9 +3,7 @@
 // One walk over the tree, in order, and one over the free chain; each digest is worked out once, from the children's stored ones.
 // No slot is marked: keys that rise strictly name a slot once, a chain that ends names a slot once, live bits keep the two apart,
 // and the counts say that nothing is left over. Links that form a cycle break the order of keys at the first slot met again.
-use hash_tree::fork_hash;
-use hash_tree::labeled_hash;
-use hash_tree::leaf_hash;
+use entries::subtree_digest;
 use key_order::below;
 use key_order::same;
 use slots::Head;
@@ -13,13 +11,11 @@ use slots::Header;
 ghost use mathlib.Core.Path.{_≡_};
 ghost use mathlib.Core.Bool.{true, false};
 ghost use Prim.Native.Nat.{_≤_};
-ghost use lib.Dec.{eqb};
 ghost use lib.ListN.{length};
-ghost use Rattle.slots.specs.Layout.{HasSlot, Decides, slot, headOf, keyOf, digestOf};
-ghost use Rattle.llrb.specs.Digests.{nodeDigest};
+ghost use Rattle.slots.specs.Layout.{HasSlot, Decides, slot, headOf, keyOf};
 ghost use Rattle.store.specs.Sound.{Sound};
 ghost use Rattle.judge.specs.Rising.{Past};
-ghost use Rattle.judge.specs.Steps.{Sized, HeaderOk, ShortHead, linkedDigest, NodeOk, boundOf, Met, WalkSays, joined, HasChain};
+ghost use Rattle.judge.specs.Steps.{Sized, HeaderOk, NodeOk, boundOf, Met, WalkSays, joined, HasChain};
 
 // A sound store has no longer way down: 2 to the height is at most the square of 1,025.
 pub const MAX_HEIGHT: usize = 20;
@@ -68,37 +64,6 @@ fn colour_ok(red: bool, black: bool) -> bool
     !red
 }
 
-// From the data digest `d` and the stored digests of the slots that the links name.
-pub fn fork_with(s: &[u8], cap: usize, left: usize, right: usize, d: [u8; 32]) -> [u8; 32]
-    requires { ⌜ Sized (length (now s)) cap ⌝ }
-    requires { ⌜ (left ≤ cap) × (right ≤ cap) ⌝ }
-    ensures { λ r. ⌜ r ≡ nodeDigest (eqb left 0) (eqb right 0) (digestOf (now (s .entry)) left) d (digestOf (now (s .entry)) right) ⌝ }
-{
-    if left == 0 {
-        if right == 0 {
-            return d;
-        }
-        return fork_hash(&d, slots::digest(s, right));
-    }
-    if right == 0 {
-        return fork_hash(slots::digest(s, left), &d);
-    }
-    let f = fork_hash(&d, slots::digest(s, right));
-    fork_hash(slots::digest(s, left), &f)
-}
-
-fn node_digest(s: &[u8], cap: usize, i: usize, h: Head) -> [u8; 32]
-    requires { ⌜ Sized (length (now s)) cap ⌝ }
-    requires { ⌜ HasSlot (length (now s)) i ⌝ }
-    requires { ⌜ h ≡ headOf (slot (now s) i) ⌝ }
-    requires { ⌜ ShortHead cap h ⌝ }
-    ensures { λ r. ⌜ r ≡ linkedDigest (now (s .entry)) (slot (now (s .entry)) i) ⌝ }
-{
-    let leaf = leaf_hash(slots::value_part(s, i, h.value_length));
-    let d = labeled_hash(slots::key_part(s, i, h.key_length), &leaf);
-    fork_with(s, cap, h.left, h.right, d)
-}
-
 // Whether slot `i`, whose head is `h`, holds a node. What is cheap is tested first.
 fn node_ok(s: &[u8], cap: usize, i: usize, h: Head, black: bool) -> bool
     requires { ⌜ Sized (length (now s)) cap ⌝ }
@@ -115,10 +80,10 @@ fn node_ok(s: &[u8], cap: usize, i: usize, h: Head, black: bool) -> bool
     if cap < h.right {
         return false;
     }
-    if !slots::is_entry(s, i, h) {
+    if !slot_tests::is_entry(s, i, h) {
         return false;
     }
-    let d = node_digest(s, cap, i, h);
+    let d = subtree_digest(s, i);
     same(slots::digest(s, i), &d)
 }
 
@@ -225,7 +190,7 @@ fn chain_ok(s: &[u8], cap: usize, x: usize, n: usize) -> bool
         if cap < at {
             return false;
         }
-        if !slots::is_free(s, at) {
+        if !slot_tests::is_free(s, at) {
             return false;
         }
         at = slots::left(s, at);

@@ -46,6 +46,12 @@ pub fn create(store: &mut [u8], capacity: u64) -> usize
 pub fn is_empty(store: &[u8]) -> Told
     ensures { λ r. ⌜ r ≡ isEmptyAnswer (now (store .entry)) ⌝ }
 {
+    if !judge(store) {
+        return Told {
+            number: NOT_SOUND,
+            yes: false,
+        };
+    }
     whole_store::is_empty(store)
 }
 
@@ -53,12 +59,24 @@ pub fn is_empty(store: &[u8]) -> Told
 pub fn count(store: &[u8]) -> Counted
     ensures { λ r. ⌜ r ≡ countAnswer (now (store .entry)) ⌝ }
 {
+    if !judge(store) {
+        return Counted {
+            number: NOT_SOUND,
+            count: 0,
+        };
+    }
     whole_store::count(store)
 }
 
 pub fn root_hash(store: &[u8]) -> Digested
     ensures { λ r. ⌜ r ≡ rootHashAnswer (now (store .entry)) ⌝ }
 {
+    if !judge(store) {
+        return Digested {
+            number: NOT_SOUND,
+            digest: [0u8; 32],
+        };
+    }
     whole_store::root_hash(store)
 }
 

@@ -1,59 +1,31 @@
 -- What the code's numbers and stores are in terms of the layout.
--- Assumes nothing.
 use mathlib.Core.Path.{_≡_, refl, sym, ap, subst, _∙_}
 use mathlib.Core.Bool.{Bool}
-use mathlib.Core.List.{List, [], _∷_}
-use Prim.Native.Nat.{ℕ, zero, suc, _+_, _*_, _/_, _%_, _≤_, _<_}
+use mathlib.Core.List.{List}
+use Prim.Native.Nat.{ℕ, zero, _+_, _*_, _/_, _%_, _≤_, _<_}
 use native.Mathlib.Nat.{div-one}
 use native.Mathlib.Omega.{arith}
 use lib.Dec.{eqb}
-use lib.ListN.{length, getD, take}
-use lib.Seq.{sets, drop-cons}
-use Rattle.slots.specs.Bits.{joined, fields, recut, octets, bit}
+use lib.ListN.{length, take}
+use lib.Seq.{sets}
+use Rattle.runs.specs.Bits.{joined, fields, recut, octets, bit}
 use Rattle.slots.specs.declared.Header.{Header}
 use Rattle.slots.specs.declared.Head.{Head}
-use Rattle.slots.specs.Layout.{HasSlot, headAt, HeadOf, place, part, room, headerWidths, headerValues, header, HeaderFits, headWidths, headValues, slot, keyOf, valueOf, numberAt, headOf, HeadFits}
-use Rattle.slots.specs.Setters.{putRoom, setHeader, setSlot, withLive, withRoot, withFree, setLive, setRoot, setFree, withHead, setRed, setLeft, setRight}
+use Rattle.slots.specs.Layout.{HasSlot, headAt, HeadOf, place, room, headerWidths, headerValues, header, HeaderFits, headWidths, headValues, slot, keyOf, valueOf, headOf, HeadFits}
+use Rattle.runs.specs.Runs.{part, numberAt}
+use Rattle.slots.specs.Setters.{putRoom, setHeader, setSlot, withRoot, setRoot, withHead, setRed, setLeft, setRight}
 use Rattle.slots.proofs.Lenses.{headBytes, header-fits, slot-fits, set-head-is}
-
--- ---- numbers in bytes
-
-abbrev run : ℕ → ℕ → List ℕ → List ℕ
-run zero a s = []
-run (suc n) a s = getD s a 0 ∷ run n (suc a) s
-
-part-run : (n a : ℕ) (s : List ℕ) → a + n ≤ length s → part a n s ≡ run n a s
-part-run zero a s p = refl
-part-run (suc n) a s p =
-    ap (take (suc n)) (drop-cons s a 0 (omega arith)) ∙ ap (λ (z : List ℕ). getD s a 0 ∷ z) (part-run n (suc a) s (omega arith))
-
-pub six-is : (s : List ℕ) (a r0 r1 r2 r3 r4 r5 : ℕ) → a + 6 ≤ length s → r0 ≡ getD s a 0 → r1 ≡ getD s (a + 1) 0 → r2 ≡ getD s (a + 2) 0 → r3 ≡ getD s (a + 3) 0 → r4 ≡ getD s (a + 4) 0 → r5 ≡ getD s (a + 5) 0
-    → r0 * 1099511627776 + r1 * 4294967296 + r2 * 16777216 + r3 * 65536 + r4 * 256 + r5 ≡ numberAt 6 s a
-unfolding numberAt joined
-six-is s a r0 r1 r2 r3 r4 r5 p e0 e1 e2 e3 e4 e5 =
-    let at : (j k : ℕ) → j ≡ k → getD s j 0 ≡ getD s k 0 = λ j k e. ap (λ (n : ℕ). getD s n 0) e in
-    let g1 : getD s (suc a) 0 ≡ r1 = at (suc a) (a + 1) (omega arith) ∙ sym e1 in
-    let g2 : getD s (suc (suc a)) 0 ≡ r2 = at (suc (suc a)) (a + 2) (omega arith) ∙ sym e2 in
-    let g3 : getD s (suc (suc (suc a))) 0 ≡ r3 = at (suc (suc (suc a))) (a + 3) (omega arith) ∙ sym e3 in
-    let g4 : getD s (suc (suc (suc (suc a)))) 0 ≡ r4 = at (suc (suc (suc (suc a)))) (a + 4) (omega arith) ∙ sym e4 in
-    let g5 : getD s (suc (suc (suc (suc (suc a))))) 0 ≡ r5 = at (suc (suc (suc (suc (suc a))))) (a + 5) (omega arith) ∙ sym e5 in
-    rw (part-run 6 a s p) (omega arith)
-
-pub eight-is : (s : List ℕ) (r0 r1 r2 r3 r4 r5 r6 r7 : ℕ) → 8 ≤ length s → r0 ≡ getD s 0 0 → r1 ≡ getD s 1 0 → r2 ≡ getD s 2 0 → r3 ≡ getD s 3 0 → r4 ≡ getD s 4 0 → r5 ≡ getD s 5 0 → r6 ≡ getD s 6 0 → r7 ≡ getD s 7 0
-    → r0 * 72057594037927936 + r1 * 281474976710656 + r2 * 1099511627776 + r3 * 4294967296 + r4 * 16777216 + r5 * 65536 + r6 * 256 + r7 ≡ numberAt 8 s 0
-unfolding numberAt joined
-eight-is s r0 r1 r2 r3 r4 r5 r6 r7 p e0 e1 e2 e3 e4 e5 e6 e7 = rw (part-run 8 0 s (omega arith)) (omega arith)
 
 -- ---- heads and header
 
 pub head-is : (s : List ℕ) (i a h : ℕ) → a ≡ headAt (length s) i → h ≡ numberAt 6 s a
     → _≡_ {A = Head}
     (record {
-      live = eqb (h / 140737488355328 % 2) 1;
-      red = eqb (h / 70368744177664 % 2) 1;
-      left = h / 34359738368 % 2048;
-      right = h / 16777216 % 2048;
-      «key_length» = h / 262144 % 64;
+      live = eqb (h / 0x800000000000 % 2) 1;
+      red = eqb (h / 0x400000000000 % 2) 1;
+      left = h / 0x800000000 % 2048;
+      right = h / 0x1000000 % 2048;
+      «key_length» = h / 0x40000 % 64;
       «value_length» = h / 2048 % 128;
       zero = h % 2048;
     })
@@ -65,25 +37,25 @@ head-is s i a h ea eh =
     let z : h % 2048 ≡ w / 1 % 2048 = ap (λ (y : ℕ). y % 2048) (e ∙ sym (div-one w)) in
     λ j.
     record {
-      live = eqb (e j / 140737488355328 % 2) 1;
-      red = eqb (e j / 70368744177664 % 2) 1;
-      left = e j / 34359738368 % 2048;
-      right = e j / 16777216 % 2048;
-      «key_length» = e j / 262144 % 64;
+      live = eqb (e j / 0x800000000000 % 2) 1;
+      red = eqb (e j / 0x400000000000 % 2) 1;
+      left = e j / 0x800000000 % 2048;
+      right = e j / 0x1000000 % 2048;
+      «key_length» = e j / 0x40000 % 64;
       «value_length» = e j / 2048 % 128;
       zero = z j;
     }
 
 pub header-is : (s : List ℕ) (h : ℕ) → h ≡ numberAt 8 s 0
     → _≡_ {A = Header}
-    (record { edition = h / 1152921504606846976 % 16; capacity = h / 562949953421312 % 2048; live = h / 274877906944 % 2048; root = h / 134217728 % 2048; free = h / 65536 % 2048; zero = h % 65536 })
+    (record { edition = h / 0x1000000000000000 % 16; capacity = h / 0x2000000000000 % 2048; live = h / 0x4000000000 % 2048; root = h / 0x8000000 % 2048; free = h / 0x10000 % 2048; zero = h % 0x10000 })
     (header s)
 unfolding header room place recut fields numberAt
 header-is s h e =
     let w : ℕ = joined (octets 8) (part 0 8 s) in
-    let z : h % 65536 ≡ w / 1 % 65536 = ap (λ (y : ℕ). y % 65536) (e ∙ sym (div-one w)) in
+    let z : h % 0x10000 ≡ w / 1 % 0x10000 = ap (λ (y : ℕ). y % 0x10000) (e ∙ sym (div-one w)) in
     λ j.
-    record { edition = e j / 1152921504606846976 % 16; capacity = e j / 562949953421312 % 2048; live = e j / 274877906944 % 2048; root = e j / 134217728 % 2048; free = e j / 65536 % 2048; zero = z j }
+    record { edition = e j / 0x1000000000000000 % 16; capacity = e j / 0x2000000000000 % 2048; live = e j / 0x4000000000 % 2048; root = e j / 0x8000000 % 2048; free = e j / 0x10000 % 2048; zero = z j }
 
 pub head-fits : (s : List ℕ) {i : ℕ} {h : Head} → HasSlot (length s) i → h ≡ headOf (slot s i) → HeadFits h
 head-fits s {i} p e =
@@ -92,26 +64,26 @@ head-fits s {i} p e =
 
 -- what `set_head` and `set_header` write
 pub head-set : (s t : List ℕ) (i a b0 b1 : ℕ) (h : Head) → HasSlot (length s) i → a ≡ headAt (length s) i → b0 ≡ bit (h .live) → b1 ≡ bit (h .red)
-    → t ≡ sets s a (fields (octets 6) (b0 * 140737488355328 + b1 * 70368744177664 + h .left * 34359738368 + h .right * 16777216 + h .«key_length» * 262144 + h .«value_length» * 2048 + h .zero))
+    → t ≡ sets s a (fields (octets 6) (b0 * 0x800000000000 + b1 * 0x400000000000 + h .left * 0x800000000 + h .right * 0x1000000 + h .«key_length» * 0x40000 + h .«value_length» * 2048 + h .zero))
     → t ≡ setSlot s i (withHead h (slot s i))
 head-set s t i a b0 b1 h p ea e0 e1 et =
-    et ∙ ap (λ (z : ℕ). sets s z (fields (octets 6) (b0 * 140737488355328 + b1 * 70368744177664 + h .left * 34359738368 + h .right * 16777216 + h .«key_length» * 262144 + h .«value_length» * 2048 + h .zero))) ea
+    et ∙ ap (λ (z : ℕ). sets s z (fields (octets 6) (b0 * 0x800000000000 + b1 * 0x400000000000 + h .left * 0x800000000 + h .right * 0x1000000 + h .«key_length» * 0x40000 + h .«value_length» * 2048 + h .zero))) ea
     ∙ ap (λ (z : ℕ). sets s (headAt (length s) i) (fields (octets 6) z)) number
     ∙ written
     ∙ sym (set-head-is s i (withHead h (slot s i)) p refl refl)
   where
-    number : b0 * 140737488355328 + b1 * 70368744177664 + h .left * 34359738368 + h .right * 16777216 + h .«key_length» * 262144 + h .«value_length» * 2048 + h .zero ≡ joined headWidths (headValues (withHead h (slot s i)))
+    number : b0 * 0x800000000000 + b1 * 0x400000000000 + h .left * 0x800000000 + h .right * 0x1000000 + h .«key_length» * 0x40000 + h .«value_length» * 2048 + h .zero ≡ joined headWidths (headValues (withHead h (slot s i)))
     number = unfold joined in omega arith
 
     written : sets s (headAt (length s) i) (fields (octets 6) (joined headWidths (headValues (withHead h (slot s i))))) ≡ putRoom s (HeadOf i) (headBytes (withHead h (slot s i)))
     written = unfold putRoom place recut in refl
 
 pub header-set : (s t : List ℕ) (h : Header)
-    → t ≡ sets s 0 (fields (octets 8) (h .edition * 1152921504606846976 + h .capacity * 562949953421312 + h .live * 274877906944 + h .root * 134217728 + h .free * 65536 + h .zero))
+    → t ≡ sets s 0 (fields (octets 8) (h .edition * 0x1000000000000000 + h .capacity * 0x2000000000000 + h .live * 0x4000000000 + h .root * 0x8000000 + h .free * 0x10000 + h .zero))
     → t ≡ setHeader s h
 unfolding setHeader putRoom place recut joined
 header-set s t h e =
-    let n : h .edition * 1152921504606846976 + h .capacity * 562949953421312 + h .live * 274877906944 + h .root * 134217728 + h .free * 65536 + h .zero ≡ joined headerWidths (headerValues h) = omega arith in
+    let n : h .edition * 0x1000000000000000 + h .capacity * 0x2000000000000 + h .live * 0x4000000000 + h .root * 0x8000000 + h .free * 0x10000 + h .zero ≡ joined headerWidths (headerValues h) = omega arith in
     e ∙ ap (λ (z : ℕ). sets s 0 (fields (octets 8) z)) n
 
 -- ---- one field of the header, one field of a head
@@ -119,26 +91,12 @@ header-set s t h e =
 header-fits-of : (s : List ℕ) {h : Header} → h ≡ header s → HeaderFits h
 header-fits-of s e = subst HeaderFits (sym e) (header-fits s)
 
-pub live-fits : (s : List ℕ) {h : Header} {x : ℕ} → h ≡ header s → x < 2048 → HeaderFits (withLive x h)
-live-fits s e l = let g = header-fits-of s e in record { edition = g .edition; capacity = g .capacity; live = l; root = g .root; free = g .free; zero = g .zero }
-
-pub live-set : (s t : List ℕ) (x : ℕ) {h : Header} → h ≡ header s → t ≡ setHeader s (withLive x h) → t ≡ setLive s x
-unfolding setLive
-live-set s t x e q = q ∙ ap (λ (z : Header). setHeader s (withLive x z)) e
-
 pub root-fits : (s : List ℕ) {h : Header} {x : ℕ} → h ≡ header s → x < 2048 → HeaderFits (withRoot x h)
 root-fits s e l = let g = header-fits-of s e in record { edition = g .edition; capacity = g .capacity; live = g .live; root = l; free = g .free; zero = g .zero }
 
 pub root-set : (s t : List ℕ) (x : ℕ) {h : Header} → h ≡ header s → t ≡ setHeader s (withRoot x h) → t ≡ setRoot s x
 unfolding setRoot
 root-set s t x e q = q ∙ ap (λ (z : Header). setHeader s (withRoot x z)) e
-
-pub free-fits : (s : List ℕ) {h : Header} {x : ℕ} → h ≡ header s → x < 2048 → HeaderFits (withFree x h)
-free-fits s e l = let g = header-fits-of s e in record { edition = g .edition; capacity = g .capacity; live = g .live; root = g .root; free = l; zero = g .zero }
-
-pub free-set : (s t : List ℕ) (x : ℕ) {h : Header} → h ≡ header s → t ≡ setHeader s (withFree x h) → t ≡ setFree s x
-unfolding setFree
-free-set s t x e q = q ∙ ap (λ (z : Header). setHeader s (withFree x z)) e
 
 abbrev redHead : Bool → Head → Head
 redHead x h = record { live = h .live; red = x; left = h .left; right = h .right; «key_length» = h .«key_length»; «value_length» = h .«value_length»; zero = h .zero }

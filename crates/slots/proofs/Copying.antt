@@ -1,20 +1,17 @@
 -- Runs of bytes written by the code: zeros, copies, padded strings; and what a sequence of them leaves of a slot.
--- Assumes nothing.
 use mathlib.Core.Path.{_≡_, refl, sym, ap, subst, _∙_}
-use mathlib.Core.List.{List, [], _∷_, _++_, append-assoc, append-nil}
-use Prim.Native.Nat.{ℕ, zero, suc, _+_, _-_, _≤_, _<_}
-use native.Mathlib.Numerals.{add-one}
+use mathlib.Core.List.{List}
+use Prim.Native.Nat.{ℕ, zero, _+_, _-_, _≤_}
 use native.Mathlib.Omega.{arith}
-use lib.ListN.{length, getD, set, take, drop, length-drop, drop-of-length-le, replicate-append-replicate}
-use lib.Seq.{sets, sets-eq, take-take, take-suc, take-length, getD-drop}
-use borrow.Rule.Slice.PartMut.{midOf, postOf, putMid, post-is, mid-len}
-use Rattle.slots.specs.Bits.{recut, octets}
+use lib.ListN.{length, take, drop}
+use lib.Seq.{sets, take-take}
+use Rattle.runs.specs.Bits.{recut, octets}
 use Rattle.slots.specs.declared.Head.{Head}
-use Rattle.slots.specs.Layout.{HasSlot, keyAt, valueAt, digestAt, HeadOf, KeyOf, ValueOf, place, part, room, Slot, headWidths, headValues, slot, digestOf, zeros, padded, freeSlot, headOf, HeadFits, CopiesWithin}
+use Rattle.slots.specs.Layout.{HasSlot, keyAt, valueAt, digestAt, HeadOf, KeyOf, ValueOf, place, room, Slot, headWidths, headValues, slot, digestOf, freeSlot, headOf, HeadFits}
+use Rattle.runs.specs.Runs.{part, zeros, padded, CopiesWithin}
 use Rattle.slots.specs.Setters.{putRoom, setSlot, setDigest, withHead, withValue, withEntryOf, setValue, moveEntry, clearSlot}
-use Rattle.slots.proofs.Rooms.{part-length, getD-out, apart, room-other, room-id, length-putRoom}
+use Rattle.slots.proofs.Rooms.{apart, room-other, room-id, length-putRoom}
 use Rattle.slots.proofs.Lenses.{headBytes, head-bytes-length, slot-fits, set-head-is}
-use Rattle.slots.proofs.Writing.{length-zeros}
 use Rattle.slots.proofs.Coding.{head-fits}
 
 -- ---- parts of rooms
@@ -34,55 +31,6 @@ module _ (s : List ℕ) (i b n : ℕ) where
 pub digest-part : (s : List ℕ) (i b : ℕ) → b ≡ digestAt (length s) i → take ((b + 32) - b) (drop b s) ≡ digestOf s i
 unfolding digestOf room place
 digest-part s i b e = let n : (b + 32) - b ≡ 32 = omega arith in ap (λ (k : ℕ). take k (drop b s)) n ∙ ap (λ (k : ℕ). part k 32 s) e
-
--- ---- runs
-
-pub sets-append : (s : List ℕ) (a : ℕ) (x y : List ℕ) → sets s a (x ++ y) ≡ sets (sets s a x) (a + length x) y
-sets-append s a [] y = let e : a + 0 ≡ a = omega arith in ap (λ (k : ℕ). sets s k y) (sym e)
-sets-append s a (c ∷ x) y = let e : suc a + length x ≡ a + suc (length x) = omega arith in sets-append (set s a c) (suc a) x y ∙ ap (λ (k : ℕ). sets (sets (set s a c) (suc a) x) k y) e
-
--- one more byte
-next : (s : List ℕ) (a : ℕ) (x : List ℕ) (n v : ℕ) → length x ≡ n → set (sets s a x) (a + n) v ≡ sets s a (x ++ (v ∷ []))
-next s a x n v e = sym (sets-append s a x (v ∷ []) ∙ ap (λ (k : ℕ). set (sets s a x) (a + k) v) e)
-
-zeros-more : (i : ℕ) → zeros i ++ (0 ∷ []) ≡ zeros (i + 1)
-unfolding zeros
-zeros-more i = replicate-append-replicate i 1 0
-
-pub wipe-next : (s : List ℕ) (a i : ℕ) → set (sets s a (zeros i)) (a + i) 0 ≡ sets s a (zeros (i + 1))
-wipe-next s a i = next s a (zeros i) i 0 (length-zeros i) ∙ ap (sets s a) (zeros-more i)
-
-pub copy-next : (s : List ℕ) (a b n i : ℕ) → CopiesWithin (length s) a b n → i < n
-    → set (sets s a (part b i s)) (a + i) (getD (sets s a (part b i s)) (b + i) 0) ≡ sets s a (part b (i + 1) s)
-copy-next s a b n i p q =
-    let l : length (part b i s) ≡ i = part-length b i s (omega (arith, p .from)) in
-    let there : getD (sets s a (part b i s)) (b + i) 0 ≡ getD s (b + i) 0 = getD-out s a (part b i s) (b + i) (λ x y. p .apart (b + i) x (omega arith) (omega arith) (omega arith)) in
-    let long : i < length (drop b s) = omega (arith, length-drop b s, p .from) in
-    let more : part b (i + 1) s ≡ part b i s ++ (getD s (b + i) 0 ∷ []) = rw add-one (take-suc (drop b s) i 0 long ∙ ap (λ (v : ℕ). part b i s ++ (v ∷ [])) (getD-drop b s i 0)) in
-    ap (set (sets s a (part b i s)) (a + i)) there ∙ next s a (part b i s) i (getD s (b + i) 0) l ∙ ap (sets s a) (sym more)
-
--- what a copy into a lent part leaves of the whole
-copied : (s d ys : List ℕ) (a : ℕ) → a + length d ≤ length s → ys ≡ take (length d) d ++ drop (length d) (midOf a ((a + length d) - a) s)
-    → putMid a ((a + length d) - a) s ys ≡ sets s a d
-copied s d ys a p c =
-    let m : length (midOf a ((a + length d) - a) s) ≡ (a + length d) - a = mid-len a (a + length d) s p in
-    let n : drop (length d) (midOf a ((a + length d) - a) s) ≡ [] = drop-of-length-le (midOf a ((a + length d) - a) s) {i = length d} (omega arith) in
-    let y : ys ≡ d = c ∙ rw (n, take-length d) (append-nil d) in
-    let o : postOf a ((a + length d) - a) s ≡ drop (a + length d) s = post-is a (a + length d) s (omega arith) in
-    rw (y, o) (sym (append-assoc (take a s) d (drop (a + length d) s))) ∙ sym (sets-eq d s a p)
-
--- a string and then zeros
-pub padded-set : (s t u x : List ℕ) (a n : ℕ) → t ≡ sets s a x → u ≡ sets t (a + length x) (zeros (n - length x)) → u ≡ sets s a (padded n x)
-unfolding padded
-padded-set s t u x a n e f = f ∙ ap (λ (z : List ℕ). sets z (a + length x) (zeros (n - length x))) e ∙ sym (sets-append s a x (zeros (n - length x)))
-
-pub copied-into : (s d ys : List ℕ) (a n : ℕ) → (a + n ≤ length s) × (length d ≤ n) → ys ≡ take (length d) d ++ drop (length d) (midOf a ((a + length d) - a) s)
-    → putMid a ((a + length d) - a) s ys ≡ sets s a d
-copied-into s d ys a n p c = copied s d ys a (omega arith) c
-
-pub copied-32 : (s d ys : List ℕ) (a : ℕ) → a + 32 ≤ length s → length d ≡ 32 → ys ≡ take (length d) d ++ drop (length d) (midOf a ((a + 32) - a) s)
-    → putMid a ((a + 32) - a) s ys ≡ sets s a d
-copied-32 s d ys a p e c = subst (λ (n : ℕ). ys ≡ take (length d) d ++ drop (length d) (midOf a ((a + n) - a) s) → putMid a ((a + n) - a) s ys ≡ sets s a d) e (copied s d ys a (omega arith)) c
 
 pub digest-set : (s t d : List ℕ) (i a : ℕ) → a ≡ digestAt (length s) i → t ≡ sets s a d → t ≡ setDigest s i d
 unfolding setDigest putRoom place

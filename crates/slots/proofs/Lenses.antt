@@ -1,17 +1,16 @@
 -- The lens laws: a header, a slot or a digest that is put in place is read back, and all the rest stays.
--- Assumes nothing.
 use mathlib.Core.Path.{_≡_, refl, sym, ap, subst, _∙_}
 use mathlib.Core.List.{List, [], _∷_}
-use Prim.Native.Nat.{ℕ, _/_, _%_, _^_, _≤_, _<_}
+use Prim.Native.Nat.{ℕ, _/_, _%_, _^_, _≤_}
 use native.Mathlib.Nat.{mod-lt}
 use native.Mathlib.Omega.{arith}
 use lib.Dec.{lit<}
 use lib.ListN.{length}
-use Rattle.slots.specs.Bits.{joined, fields, recut, Fit, octets, Bytes}
+use Rattle.runs.specs.Bits.{joined, fields, recut, Fit, octets, Bytes}
 use Rattle.slots.specs.declared.Header.{Header}
 use Rattle.slots.specs.Layout.{HasSlot, Room, TheHeader, HeadOf, KeyOf, ValueOf, DigestOf, room, headerWidths, headerValues, headerFrom, header, HeaderFits, Slot, headWidths, headValues, slotFrom, slot, SlotFits, digestOf}
 use Rattle.slots.specs.Setters.{putRoom, setHeader, setSlot, setDigest}
-use Rattle.slots.proofs.Recut.{recut-fit, recut-back, fit-length, bytes-fit, fit-bytes, flag-bit, bit-flag, bit-lt}
+use Rattle.runs.proofs.Recut.{recut-fit, recut-back, fit-length, bytes-fit, fit-bytes, flag-bit, bit-flag, bit-lt}
 use Rattle.slots.proofs.Rooms.{Within, Other, room-length, bytes-room, length-putRoom, bytes-putRoom, room-same, room-other, room-id}
 
 -- ---- what is read fits

@@ -1,6 +1,5 @@
 -- The rooms of a store: no byte lies in two, every byte lies in one; what is written into one is read back there, and the others stay.
 -- Where the rooms lie is used here alone.
--- Assumes nothing.
 use mathlib.Core.Path.{_≡_, refl, sym, ap, _∙_}
 use mathlib.Core.Bool.{Bool, true, false}
 use mathlib.Core.Logic.{_≢_}
@@ -10,11 +9,14 @@ use native.Mathlib.Nat.{div-add-mod', mod-lt}
 use native.Mathlib.Omega.{arith}
 use borrow.Author.Tests.{ltb-true, ltb-false}
 use lib.Dec.{ltb, lit<}
-use lib.ListN.{length, getD, set, take, drop, length-take, length-drop}
-use lib.Seq.{sets, length-sets, sets-eq, getD-set-other, set-getD, drop-cons, getD-take, getD-drop, ext-getD, drop-at, take-at, length-take-le}
-use Rattle.slots.specs.Bits.{Bytes}
-use Rattle.slots.specs.Layout.{storeLength, HasSlot, headAt, keyAt, valueAt, digestAt, Room, TheHeader, HeadOf, KeyOf, ValueOf, DigestOf, place, size, part, room}
+use lib.ListN.{length, getD, set, take, drop}
+use lib.Seq.{sets, length-sets, sets-eq, set-getD, drop-cons, getD-take, getD-drop, ext-getD, drop-at, take-at, length-take-le}
+use Rattle.runs.specs.Bits.{Bytes}
+use Rattle.slots.specs.Limits.{storeLength}
+use Rattle.slots.specs.Layout.{HasSlot, headAt, keyAt, valueAt, digestAt, Room, TheHeader, HeadOf, KeyOf, ValueOf, DigestOf, place, size, room}
+use Rattle.runs.specs.Runs.{part}
 use Rattle.slots.specs.Setters.{putRoom}
+use Rattle.runs.proofs.Runs.{part-length, getD-out}
 
 -- ---- places
 
@@ -125,17 +127,8 @@ lies cap k p q = front (ltb k 8) refl
 
 -- ---- runs of bytes
 
-pub part-length : (a n : ℕ) (s : List ℕ) → a + n ≤ length s → length (part a n s) ≡ n
-part-length a n s p = simp (length-take, length-drop) (omega arith)
-
 getD-part : (a n : ℕ) (s : List ℕ) (d : ℕ) → d < n → getD (part a n s) d 0 ≡ getD s (a + d) 0
 getD-part a n s d p = getD-take n (drop a s) d 0 p ∙ getD-drop a s d 0
-
--- a byte that is not written
-pub getD-out : (s : List ℕ) (a : ℕ) (xs : List ℕ) (k : ℕ) → (a ≤ k → k < a + length xs → ⊥) → getD (sets s a xs) k 0 ≡ getD s k 0
-getD-out s a [] k p = refl
-getD-out s a (x ∷ xs) k p =
-    getD-out (set s a x) (suc a) xs k (λ y z. p (omega arith) (omega arith)) ∙ getD-set-other s a k x 0 (λ e. p (omega arith) (omega arith))
 
 part-at : (s : List ℕ) (a : ℕ) (xs : List ℕ) (n : ℕ) → length xs ≡ n → a + n ≤ length s → part a n (sets s a xs) ≡ xs
 part-at s a xs n e p =

@@ -1,5 +1,4 @@
 -- Whole stores: a store is determined by its header, slots and digests, and is the bytes put together from them.
--- Assumes nothing.
 use mathlib.Core.Path.{_≡_, refl, sym, ap, subst, _∙_}
 use mathlib.Core.Logic.{_⊎_, ⊎-elim}
 use mathlib.Core.List.{List}
@@ -7,13 +6,16 @@ use Prim.Native.Nat.{ℕ, zero, suc, _+_, _≤_, _<_}
 use native.Mathlib.Nat.{eq-or-lt-of-le}
 use native.Mathlib.Omega.{arith}
 use lib.ListN.{length}
-use Rattle.slots.specs.Bits.{Bytes}
+use Rattle.runs.specs.Bits.{Bytes}
 use Rattle.slots.specs.declared.Header.{Header}
-use Rattle.slots.specs.Layout.{storeLength, HasSlot, Room, TheHeader, HeadOf, KeyOf, ValueOf, DigestOf, room, header, HeaderFits, Slot, slot, SlotFits, digestOf, zeros}
+use Rattle.slots.specs.Limits.{storeLength}
+use Rattle.slots.specs.Layout.{HasSlot, Room, TheHeader, HeadOf, KeyOf, ValueOf, DigestOf, room, header, HeaderFits, Slot, slot, SlotFits, digestOf}
+use Rattle.runs.specs.Runs.{zeros}
 use Rattle.slots.specs.Setters.{setHeader, setSlot, setDigest, withSlots, bytesOf}
 use Rattle.slots.proofs.Rooms.{Within, bytes-room, same-rooms}
 use Rattle.slots.proofs.Lenses.{headerBytes, headBytes, header-room, head-room, header-fits, slot-fits, digest-length, length-setHeader, bytes-setHeader, header-setHeader, slot-setHeader, digest-setHeader, length-setDigest, bytes-setDigest, digest-setDigest, digest-setDigest-other, slot-setDigest, length-setSlot, bytes-setSlot, slot-setSlot, slot-setSlot-other, digest-setSlot}
-use Rattle.slots.proofs.Writing.{length-zeros, bytes-zeros, bytes-key, bytes-value, bytes-digest}
+use Rattle.runs.proofs.Padding.{length-zeros, bytes-zeros}
+use Rattle.slots.proofs.Writing.{bytes-key, bytes-value, bytes-digest}
 
 -- something for each slot of a store of this capacity
 abbrev pub Each : ℕ → (ℕ → Type 0) → Type 0

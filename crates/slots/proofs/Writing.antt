@@ -1,54 +1,20 @@
 -- What each setter leaves, as one record: the slot it wrote, and that all the rest stays. Frames compose and widen.
--- Assumes nothing.
 use mathlib.Core.Path.{_≡_, refl, sym, ap, subst, _∙_}
 use mathlib.Core.Bool.{Bool, true, false}
-use mathlib.Core.List.{List, [], _∷_, _++_}
-use Prim.Native.Nat.{ℕ, zero, suc, _+_, _-_, _≤_, _<_}
+use mathlib.Core.List.{List}
+use Prim.Native.Nat.{ℕ, zero, _≤_, _<_}
 use native.Mathlib.Omega.{arith}
 use lib.Dec.{lit<}
-use lib.ListN.{length, take, length-append, length-replicate}
-use lib.Seq.{take-append-seam}
-use Rattle.slots.specs.Bits.{Bytes}
+use lib.ListN.{length}
+use Rattle.runs.specs.Bits.{Bytes}
 use Rattle.slots.specs.declared.Header.{Header}
-use Rattle.slots.specs.Layout.{HasSlot, KeyOf, ValueOf, DigestOf, header, HeaderFits, Slot, slot, SlotFits, digestOf, zeros, padded, keyOf, valueOf, nodeSlot, freeSlot}
-use Rattle.slots.specs.Setters.{setHeader, setSlot, setDigest, withLive, withRoot, withFree, setLive, setRoot, setFree, withRed, withLeft, withRight, withValue, withEntryOf, setRed, setLeft, setRight, setValue, moveEntry, clearSlot, Keeps, Wrote, Headed}
+use Rattle.slots.specs.Layout.{HasSlot, KeyOf, ValueOf, DigestOf, header, HeaderFits, Slot, slot, SlotFits, digestOf, keyOf, valueOf, nodeSlot, freeSlot}
+use Rattle.runs.specs.Runs.{zeros}
+use Rattle.slots.specs.Setters.{setHeader, setSlot, setDigest, withRoot, setRoot, withRed, withLeft, withRight, withValue, withEntryOf, setRed, setLeft, setRight, setValue, moveEntry, clearSlot, Keeps, Wrote, Headed}
 use Rattle.slots.proofs.Rooms.{bytes-room}
 use Rattle.slots.proofs.Lenses.{header-fits, slot-fits, length-setHeader, bytes-setHeader, header-setHeader, slot-setHeader, digest-setHeader, length-setDigest, bytes-setDigest, digest-setDigest, digest-setDigest-other, slot-setDigest, header-setDigest, length-setSlot, bytes-setSlot, slot-setSlot, slot-setSlot-other, digest-setSlot, header-setSlot}
-
--- ---- padding
-
-pub length-zeros : (n : ℕ) → length (zeros n) ≡ n
-unfolding zeros
-length-zeros n = length-replicate n 0
-
-pub bytes-zeros : (n : ℕ) → Bytes (zeros n)
-unfolding zeros
-bytes-zeros zero k = lit< tt
-bytes-zeros (suc n) zero = lit< tt
-bytes-zeros (suc n) (suc k) = bytes-zeros n k
-
-bytes-append : (x y : List ℕ) → Bytes x → Bytes y → Bytes (x ++ y)
-bytes-append [] y b c k = c k
-bytes-append (a ∷ x) y b c zero = b 0
-bytes-append (a ∷ x) y b c (suc k) = bytes-append x y (λ j. b (suc j)) c k
-
-module _ (n : ℕ) (x : List ℕ) where
-  pub padded-length : length x ≤ n → length (padded n x) ≡ n
-  unfolding padded
-  padded-length p = length-append x (zeros (n - length x)) ∙ omega (arith, length-zeros (n - length x))
-
-  -- a padded string that fills its room just so is not longer than the room
-  pub padded-fits : length (padded n x) ≡ n → length x ≤ n
-  unfolding padded
-  padded-fits e = omega (arith, length-append x (zeros (n - length x)), e)
-
-  pub padded-front : take (length x) (padded n x) ≡ x
-  unfolding padded
-  padded-front = take-append-seam x (zeros (n - length x))
-
-  pub padded-bytes : Bytes x → Bytes (padded n x)
-  unfolding padded
-  padded-bytes b = bytes-append x (zeros (n - length x)) b (bytes-zeros (n - length x))
+pub use Rattle.runs.proofs.Padding.{length-zeros, bytes-zeros}
+use Rattle.runs.proofs.Padding.{padded-length, padded-fits, padded-front, padded-bytes}
 
 -- ---- slots of entries, and free slots
 
@@ -248,23 +214,11 @@ module _ {s s′ : List ℕ} (p : 8 ≤ length s) where
         bytes = bytes-setHeader s h;
       })
 
-  pub headed-live : {x : ℕ} → s′ ≡ setLive s x → x < 2048 → Headed s s′ (withLive x (header s))
-  unfolding setLive
-  headed-live e l =
-      let f = header-fits s in
-      headed e (record { edition = f .edition; capacity = f .capacity; live = l; root = f .root; free = f .free; zero = f .zero })
-
   pub headed-root : {x : ℕ} → s′ ≡ setRoot s x → x < 2048 → Headed s s′ (withRoot x (header s))
   unfolding setRoot
   headed-root e l =
       let f = header-fits s in
       headed e (record { edition = f .edition; capacity = f .capacity; live = f .live; root = l; free = f .free; zero = f .zero })
-
-  pub headed-free : {x : ℕ} → s′ ≡ setFree s x → x < 2048 → Headed s s′ (withFree x (header s))
-  unfolding setFree
-  headed-free e l =
-      let f = header-fits s in
-      headed e (record { edition = f .edition; capacity = f .capacity; live = f .live; root = f .root; free = l; zero = f .zero })
 
 pub headed-has : {s s′ : List ℕ} {h : Header} {i : ℕ} → Headed s s′ h → HasSlot (length s) i → HasSlot (length s′) i
 headed-has {i = i} a p = subst (λ (n : ℕ). HasSlot n i) (sym (a .len)) p

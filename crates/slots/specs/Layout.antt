@@ -1,20 +1,18 @@
 -- The store's layout (document 01, "Store layout"): where header, heads, keys, values and digests lie, and what is read there.
 -- The places are functions of the store's length and the slot; nothing outside this crate opens them.
--- Assumes nothing: these are definitions.
 use mathlib.Core.Path.{_≡_}
 use mathlib.Core.Bool.{Bool, true, false}
-use mathlib.Core.List.{List, [], _∷_, _++_}
-use Prim.Native.Nat.{ℕ, _+_, _-_, _*_, _≤_, _<_}
-use lib.ListN.{length, getD, take, drop, replicate}
-use Rattle.slots.specs.Bits.{joined, recut, octets, flag, bit}
+use mathlib.Core.List.{List, [], _∷_}
+use Prim.Native.Nat.{ℕ, _+_, _-_, _≤_, _<_}
+use lib.ListN.{length, getD, take}
+use Rattle.runs.specs.Bits.{recut, octets, flag, bit}
+pub use Rattle.runs.specs.Runs.{part, CopiesWithin, Decides}
+unfoldable pub use Rattle.runs.specs.Runs.{zeros, padded, numberAt}
+pub use Rattle.slots.specs.Limits.{edition, maxCapacity, maxKey, maxValue, storeLength}
 use Rattle.slots.specs.declared.Header.{Header}
 use Rattle.slots.specs.declared.Head.{Head}
 
 -- ---- places
-
--- the length of a store of this capacity
-abbrev pub storeLength : (capacity : ℕ) → ℕ
-storeLength cap = 8 + 150 * cap
 
 -- a store of n bytes has a slot i, and a link of 11 bits can name it; slots are numbered from 1
 pub record HasSlot (n i : ℕ) : Type 0 where
@@ -24,7 +22,7 @@ pub record HasSlot (n i : ℕ) : Type 0 where
 
 -- where the parts of slot i lie in a store of n bytes
 unfoldable pub headAt : (n i : ℕ) → ℕ
-headAt n i = 8 + 150 * (i - 1)
+headAt n i = storeLength (i - 1)
 
 unfoldable pub keyAt : (n i : ℕ) → ℕ
 keyAt n i = headAt n i + 6
@@ -50,13 +48,9 @@ place n (DigestOf i) = digestAt n i
 abbrev pub size : Room → ℕ
 size TheHeader = 8
 size (HeadOf i) = 6
-size (KeyOf i) = 48
-size (ValueOf i) = 64
+size (KeyOf i) = maxKey
+size (ValueOf i) = maxValue
 size (DigestOf i) = 32
-
--- n bytes of s from a on
-abbrev pub part : (a n : ℕ) → List ℕ → List ℕ
-part a n s = take n (drop a s)
 
 -- the bytes of a room
 unfoldable pub room : List ℕ → Room → List ℕ
@@ -129,8 +123,8 @@ pub record SlotFits (v : Slot) : Type 0 where
   pub keyLength : v .keyLength < 64
   pub valueLength : v .valueLength < 128
   pub zero : v .zero < 2048
-  pub keyRoom : length (v .keyRoom) ≡ 48
-  pub valueRoom : length (v .valueRoom) ≡ 64
+  pub keyRoom : length (v .keyRoom) ≡ maxKey
+  pub valueRoom : length (v .valueRoom) ≡ maxValue
 
 unfoldable pub digestOf : List ℕ → ℕ → List ℕ
 digestOf s i = room s (DigestOf i)
@@ -144,13 +138,6 @@ keyOf v = take (v .keyLength) (v .keyRoom)
 abbrev pub valueOf : Slot → List ℕ
 valueOf v = take (v .valueLength) (v .valueRoom)
 
-unfoldable pub zeros : ℕ → List ℕ
-zeros n = replicate n 0
-
--- x in a room of n bytes: bytes past its length are zero
-unfoldable pub padded : ℕ → List ℕ → List ℕ
-padded n x = x ++ zeros (n - length x)
-
 -- the slot of an entry: the live bit is set
 abbrev pub nodeSlot : (red : Bool) (key value : List ℕ) (left right : ℕ) → Slot
 nodeSlot red key value left right =
@@ -162,8 +149,8 @@ nodeSlot red key value left right =
       keyLength = length key;
       valueLength = length value;
       zero = 0;
-      keyRoom = padded 48 key;
-      valueRoom = padded 64 value;
+      keyRoom = padded maxKey key;
+      valueRoom = padded maxValue value;
     }
 
 -- a free slot: all zero but for `left`, which names the next free slot
@@ -177,8 +164,8 @@ freeSlot next =
       keyLength = 0;
       valueLength = 0;
       zero = 0;
-      keyRoom = zeros 48;
-      valueRoom = zeros 64;
+      keyRoom = zeros maxKey;
+      valueRoom = zeros maxValue;
     }
 
 -- slot i is one of an entry
@@ -191,10 +178,6 @@ IsFree s i = (slot s i ≡ freeSlot (slot s i .left)) × (digestOf s i ≡ zeros
 
 -- ---- for the code
 
--- the number in n bytes from a on
-unfoldable pub numberAt : (n : ℕ) → List ℕ → (a : ℕ) → ℕ
-numberAt n s a = joined (octets n) (part a n s)
-
 -- the head of a slot as the code's struct
 abbrev pub headOf : Slot → Head
 headOf v =
@@ -206,14 +189,3 @@ pub record HeadFits (h : Head) : Type 0 where
   pub keyLength : h .«key_length» < 64
   pub valueLength : h .«value_length» < 128
   pub zero : h .zero < 2048
-
--- n bytes at a and n bytes at b lie within a store of m bytes, and do not meet
-pub record CopiesWithin (m a b n : ℕ) : Type 0 where
-  pub to : a + n ≤ m
-  pub from : b + n ≤ m
-  pub apart : (k : ℕ) → a ≤ k → k < a + n → b ≤ k → k < b + n → ⊥
-
--- a Bool that tells whether P holds
-abbrev pub Decides : Bool → Type 0 → Type 0
-Decides true P = P
-Decides false P = P → ⊥

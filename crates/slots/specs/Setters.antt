@@ -1,15 +1,16 @@
 -- Stores with one thing changed, a store put together from its parts, and what it is that a change keeps.
--- Assumes nothing: these are definitions.
 use mathlib.Core.Path.{_≡_}
 use mathlib.Core.Bool.{Bool}
 use mathlib.Core.List.{List}
 use Prim.Native.Nat.{ℕ, zero, suc}
 use lib.ListN.{length}
 use lib.Seq.{sets}
-use Rattle.slots.specs.Bits.{recut, octets, Bytes}
+use Rattle.runs.specs.Bits.{recut, octets, Bytes}
 use Rattle.slots.specs.declared.Header.{Header}
 use Rattle.slots.specs.declared.Head.{Head}
-use Rattle.slots.specs.Layout.{storeLength, HasSlot, Room, TheHeader, HeadOf, KeyOf, ValueOf, DigestOf, place, headerWidths, headerValues, header, Slot, headWidths, headValues, slot, digestOf, zeros, padded, freeSlot}
+use Rattle.slots.specs.Limits.{maxValue, storeLength}
+use Rattle.slots.specs.Layout.{HasSlot, Room, TheHeader, HeadOf, KeyOf, ValueOf, DigestOf, place, headerWidths, headerValues, header, Slot, headWidths, headValues, slot, digestOf, freeSlot}
+use Rattle.runs.specs.Runs.{zeros, padded}
 
 -- s with the bytes of a room
 unfoldable pub putRoom : List ℕ → Room → List ℕ → List ℕ
@@ -37,14 +38,8 @@ withRoot x h = record { edition = h .edition; capacity = h .capacity; live = h .
 abbrev pub withFree : ℕ → Header → Header
 withFree x h = record { edition = h .edition; capacity = h .capacity; live = h .live; root = h .root; free = x; zero = h .zero }
 
-unfoldable pub setLive : List ℕ → ℕ → List ℕ
-setLive s x = setHeader s (withLive x (header s))
-
 unfoldable pub setRoot : List ℕ → ℕ → List ℕ
 setRoot s x = setHeader s (withRoot x (header s))
-
-unfoldable pub setFree : List ℕ → ℕ → List ℕ
-setFree s x = setHeader s (withFree x (header s))
 
 -- ---- one field of a slot, its value, its entry
 
@@ -101,7 +96,7 @@ withValue x v =
       valueLength = length x;
       zero = v .zero;
       keyRoom = v .keyRoom;
-      valueRoom = padded 64 x;
+      valueRoom = padded maxValue x;
     }
 
 -- the key and the value of the slot u

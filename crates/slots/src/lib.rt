@@ -1,13 +1,22 @@
 // The bytes of a store (document 01, "Store layout"): the only crate that knows where a bit lies.
-mod runs;
-
+use answers::MAX_KEY;
+use answers::MAX_VALUE;
 ghost use mathlib.Core.Path.{_≡_};
 ghost use Prim.Native.Nat.{_+_, _≤_, _<_};
 ghost use lib.ListN.{length, take};
 ghost use mathlib.Core.Bool.{true};
-ghost use Rattle.slots.specs.Bits.{bit};
-ghost use Rattle.slots.specs.Layout.{HasSlot, headAt, keyAt, valueAt, digestAt, header, HeaderFits, slot, digestOf, keyOf, valueOf, padded, nodeSlot, IsEntry, IsFree, headOf, HeadFits, Decides};
-ghost use Rattle.slots.specs.Setters.{setHeader, setSlot, setDigest, setLive, setRoot, setFree, withHead, setRed, setLeft, setRight, setValue, moveEntry, clearSlot};
+ghost use Rattle.runs.specs.Bits.{bit};
+ghost use Rattle.slots.specs.Limits.{maxCapacity, maxKey, maxValue, storeLength};
+ghost use Rattle.slots.specs.Layout.{HasSlot, headAt, keyAt, valueAt, digestAt, header, HeaderFits, slot, digestOf, keyOf, valueOf, nodeSlot, headOf, HeadFits};
+ghost use Rattle.slots.specs.Setters.{setHeader, setSlot, setDigest, setRoot, withHead, setRed, setLeft, setRight, setValue, moveEntry, clearSlot};
+
+// The edition that the header names.
+pub const EDITION: usize = 1;
+
+// Bytes in the header and in a slot.
+const HEADER_LENGTH: usize = 8;
+
+const SLOT_LENGTH: usize = 150;
 
 // The header's fields.
 pub struct Header {
@@ -30,34 +39,42 @@ pub struct Head {
     pub zero: usize,
 }
 
+// The length of a store of this capacity.
+pub fn store_length(capacity: usize) -> usize
+    requires { ⌜ capacity ≤ maxCapacity ⌝ }
+    ensures { λ r. ⌜ r ≡ storeLength capacity ⌝ }
+{
+    HEADER_LENGTH + SLOT_LENGTH * capacity
+}
+
 // ---- where the parts of slot `i` lie in a store of `n` bytes
 
 fn head_at(n: usize, i: usize) -> usize
     requires { ⌜ HasSlot n i ⌝ }
     ensures { λ r. ⌜ (r ≡ headAt n i) × (r + 6 ≤ n) ⌝ }
 {
-    8 + 150 * (i - 1)
+    HEADER_LENGTH + SLOT_LENGTH * (i - 1)
 }
 
 pub fn key_at(n: usize, i: usize) -> usize
     requires { ⌜ HasSlot n i ⌝ }
-    ensures { λ r. ⌜ (r ≡ keyAt n i) × (r + 48 ≤ n) ⌝ }
+    ensures { λ r. ⌜ (r ≡ keyAt n i) × (r + maxKey ≤ n) ⌝ }
 {
-    8 + 150 * (i - 1) + 6
+    HEADER_LENGTH + SLOT_LENGTH * (i - 1) + 6
 }
 
 pub fn value_at(n: usize, i: usize) -> usize
     requires { ⌜ HasSlot n i ⌝ }
-    ensures { λ r. ⌜ (r ≡ valueAt n i) × (r + 64 ≤ n) ⌝ }
+    ensures { λ r. ⌜ (r ≡ valueAt n i) × (r + maxValue ≤ n) ⌝ }
 {
-    8 + 150 * (i - 1) + 54
+    HEADER_LENGTH + SLOT_LENGTH * (i - 1) + 54
 }
 
-fn digest_at(n: usize, i: usize) -> usize
+pub fn digest_at(n: usize, i: usize) -> usize
     requires { ⌜ HasSlot n i ⌝ }
     ensures { λ r. ⌜ (r ≡ digestAt n i) × (r + 32 ≤ n) ⌝ }
 {
-    8 + 150 * (i - 1) + 118
+    HEADER_LENGTH + SLOT_LENGTH * (i - 1) + 118
 }
 
 // ---- the header
@@ -68,12 +85,12 @@ pub fn header_of(s: &[u8]) -> Header
 {
     let h = runs::eight(s);
     Header {
-        edition: (h / 1152921504606846976 % 16) as usize,
-        capacity: (h / 562949953421312 % 2048) as usize,
-        live: (h / 274877906944 % 2048) as usize,
-        root: (h / 134217728 % 2048) as usize,
-        free: (h / 65536 % 2048) as usize,
-        zero: (h % 65536) as usize,
+        edition: (h / 0x1000_0000_0000_0000 % 0x10) as usize,
+        capacity: (h / 0x2_0000_0000_0000 % 0x800) as usize,
+        live: (h / 0x40_0000_0000 % 0x800) as usize,
+        root: (h / 0x800_0000 % 0x800) as usize,
+        free: (h / 0x1_0000 % 0x800) as usize,
+        zero: (h % 0x1_0000) as usize,
     }
 }
 
@@ -84,23 +101,13 @@ pub fn set_header(s: &mut [u8], h: Header)
 {
     runs::put_eight(
         s,
-        h.edition as u64 * 1152921504606846976
-            + h.capacity as u64 * 562949953421312
-            + h.live as u64 * 274877906944
-            + h.root as u64 * 134217728
-            + h.free as u64 * 65536
+        h.edition as u64 * 0x1000_0000_0000_0000
+            + h.capacity as u64 * 0x2_0000_0000_0000
+            + h.live as u64 * 0x40_0000_0000
+            + h.root as u64 * 0x800_0000
+            + h.free as u64 * 0x1_0000
             + h.zero as u64,
     );
-}
-
-pub fn set_live(s: &mut [u8], x: usize)
-    requires { ⌜ 8 ≤ length (now s) ⌝ }
-    requires { ⌜ x < 2048 ⌝ }
-    ensures { λ _. ⌜ now (s .exit) ≡ setLive (now (s .entry)) x ⌝ }
-{
-    let mut h = header_of(s);
-    h.live = x;
-    set_header(s, h);
 }
 
 pub fn set_root(s: &mut [u8], x: usize)
@@ -113,16 +120,6 @@ pub fn set_root(s: &mut [u8], x: usize)
     set_header(s, h);
 }
 
-pub fn set_free(s: &mut [u8], x: usize)
-    requires { ⌜ 8 ≤ length (now s) ⌝ }
-    requires { ⌜ x < 2048 ⌝ }
-    ensures { λ _. ⌜ now (s .exit) ≡ setFree (now (s .entry)) x ⌝ }
-{
-    let mut h = header_of(s);
-    h.free = x;
-    set_header(s, h);
-}
-
 // ---- heads
 
 pub fn head_of(s: &[u8], i: usize) -> Head
@@ -132,13 +129,13 @@ pub fn head_of(s: &[u8], i: usize) -> Head
     let a = head_at(s.len(), i);
     let h = runs::six(s, a);
     Head {
-        live: h / 140737488355328 % 2 == 1,
-        red: h / 70368744177664 % 2 == 1,
-        left: (h / 34359738368 % 2048) as usize,
-        right: (h / 16777216 % 2048) as usize,
-        key_length: (h / 262144 % 64) as usize,
-        value_length: (h / 2048 % 128) as usize,
-        zero: (h % 2048) as usize,
+        live: h / 0x8000_0000_0000 % 2 == 1,
+        red: h / 0x4000_0000_0000 % 2 == 1,
+        left: (h / 0x8_0000_0000 % 0x800) as usize,
+        right: (h / 0x100_0000 % 0x800) as usize,
+        key_length: (h / 0x4_0000 % 0x40) as usize,
+        value_length: (h / 0x800 % 0x80) as usize,
+        zero: (h % 0x800) as usize,
     }
 }
 
@@ -158,12 +155,12 @@ fn set_head(s: &mut [u8], i: usize, h: Head)
     runs::put_six(
         s,
         a,
-        bit_of(h.live) * 140737488355328
-            + bit_of(h.red) * 70368744177664
-            + h.left as u64 * 34359738368
-            + h.right as u64 * 16777216
-            + h.key_length as u64 * 262144
-            + h.value_length as u64 * 2048
+        bit_of(h.live) * 0x8000_0000_0000
+            + bit_of(h.red) * 0x4000_0000_0000
+            + h.left as u64 * 0x8_0000_0000
+            + h.right as u64 * 0x100_0000
+            + h.key_length as u64 * 0x4_0000
+            + h.value_length as u64 * 0x800
             + h.zero as u64,
     );
 }
@@ -223,7 +220,7 @@ pub fn red(s: &[u8], i: usize) -> bool
 // The first `n` bytes of the key's room: the key, where `n` is its length.
 pub fn key_part(s: &[u8], i: usize, n: usize) -> &[u8]
     requires { ⌜ HasSlot (length (now s)) i ⌝ }
-    requires { ⌜ n ≤ 48 ⌝ }
+    requires { ⌜ n ≤ maxKey ⌝ }
     ensures { λ r. ⌜ now r ≡ take n (slot (now (s .entry)) i .keyRoom) ⌝ }
 {
     let b = key_at(s.len(), i);
@@ -233,7 +230,7 @@ pub fn key_part(s: &[u8], i: usize, n: usize) -> &[u8]
 
 pub fn value_part(s: &[u8], i: usize, n: usize) -> &[u8]
     requires { ⌜ HasSlot (length (now s)) i ⌝ }
-    requires { ⌜ n ≤ 64 ⌝ }
+    requires { ⌜ n ≤ maxValue ⌝ }
     ensures { λ r. ⌜ now r ≡ take n (slot (now (s .entry)) i .valueRoom) ⌝ }
 {
     let b = value_at(s.len(), i);
@@ -243,7 +240,7 @@ pub fn value_part(s: &[u8], i: usize, n: usize) -> &[u8]
 
 pub fn key(s: &[u8], i: usize) -> &[u8]
     requires { ⌜ HasSlot (length (now s)) i ⌝ }
-    requires { ⌜ slot (now s) i .keyLength ≤ 48 ⌝ }
+    requires { ⌜ slot (now s) i .keyLength ≤ maxKey ⌝ }
     ensures { λ r. ⌜ now r ≡ keyOf (slot (now (s .entry)) i) ⌝ }
 {
     let n = head_of(s, i).key_length;
@@ -252,7 +249,7 @@ pub fn key(s: &[u8], i: usize) -> &[u8]
 
 pub fn value(s: &[u8], i: usize) -> &[u8]
     requires { ⌜ HasSlot (length (now s)) i ⌝ }
-    requires { ⌜ slot (now s) i .valueLength ≤ 64 ⌝ }
+    requires { ⌜ slot (now s) i .valueLength ≤ maxValue ⌝ }
     ensures { λ r. ⌜ now r ≡ valueOf (slot (now (s .entry)) i) ⌝ }
 {
     let n = head_of(s, i).value_length;
@@ -280,7 +277,7 @@ pub fn set_digest(s: &mut [u8], i: usize, d: &[u8; 32])
 // A new entry in slot `i`: red, with no children.
 pub fn put_entry(s: &mut [u8], i: usize, key: &[u8], value: &[u8])
     requires { ⌜ HasSlot (length (now s)) i ⌝ }
-    requires { ⌜ (length (now key) ≤ 48) × (length (now value) ≤ 64) ⌝ }
+    requires { ⌜ (length (now key) ≤ maxKey) × (length (now value) ≤ maxValue) ⌝ }
     ensures { λ _. ⌜ now (s .exit) ≡ setSlot (now (s .entry)) i (nodeSlot true (now (key .entry)) (now (value .entry)) 0 0) ⌝ }
 {
     set_head(
@@ -297,21 +294,21 @@ pub fn put_entry(s: &mut [u8], i: usize, key: &[u8], value: &[u8])
         },
     );
     let k = key_at(s.len(), i);
-    runs::put_padded(s, k, 48, key);
+    runs::put_padded(s, k, MAX_KEY, key);
     let v = value_at(s.len(), i);
-    runs::put_padded(s, v, 64, value);
+    runs::put_padded(s, v, MAX_VALUE, value);
 }
 
 pub fn set_value(s: &mut [u8], i: usize, value: &[u8])
     requires { ⌜ HasSlot (length (now s)) i ⌝ }
-    requires { ⌜ length (now value) ≤ 64 ⌝ }
+    requires { ⌜ length (now value) ≤ maxValue ⌝ }
     ensures { λ _. ⌜ now (s .exit) ≡ setValue (now (s .entry)) i (now (value .entry)) ⌝ }
 {
     let mut h = head_of(s, i);
     h.value_length = value.len();
     set_head(s, i, h);
     let v = value_at(s.len(), i);
-    runs::put_padded(s, v, 64, value);
+    runs::put_padded(s, v, MAX_VALUE, value);
 }
 
 // The key and the value of slot `j`, in slot `i` too.
@@ -328,10 +325,10 @@ pub fn move_entry(s: &mut [u8], i: usize, j: usize)
     set_head(s, i, h);
     let k = key_at(s.len(), i);
     let l = key_at(s.len(), j);
-    runs::copy_within(s, k, l, 48);
+    runs::copy_within(s, k, l, MAX_KEY);
     let v = value_at(s.len(), i);
     let w = value_at(s.len(), j);
-    runs::copy_within(s, v, w, 64);
+    runs::copy_within(s, v, w, MAX_VALUE);
 }
 
 // Frees slot `i`: all zero but for `left`, the next free slot.
@@ -354,92 +351,9 @@ pub fn clear_slot(s: &mut [u8], i: usize, next: usize)
         },
     );
     let k = key_at(s.len(), i);
-    runs::wipe(s, k, 48);
+    runs::wipe(s, k, MAX_KEY);
     let v = value_at(s.len(), i);
-    runs::wipe(s, v, 64);
+    runs::wipe(s, v, MAX_VALUE);
     let d = digest_at(s.len(), i);
     runs::wipe(s, d, 32);
-}
-
-// ---- tests
-
-// Whether the key's room is `n` bytes of key and then zeros.
-fn key_padded(s: &[u8], i: usize, n: usize) -> bool
-    requires { ⌜ HasSlot (length (now s)) i ⌝ }
-    requires { ⌜ n ≤ 48 ⌝ }
-    ensures { λ r. ⌜ Decides r (slot (now (s .entry)) i .keyRoom ≡ padded 48 (take n (slot (now (s .entry)) i .keyRoom))) ⌝ }
-{
-    let k = key_at(s.len(), i);
-    runs::is_zero(s, k + n, 48 - n)
-}
-
-fn value_padded(s: &[u8], i: usize, n: usize) -> bool
-    requires { ⌜ HasSlot (length (now s)) i ⌝ }
-    requires { ⌜ n ≤ 64 ⌝ }
-    ensures { λ r. ⌜ Decides r (slot (now (s .entry)) i .valueRoom ≡ padded 64 (take n (slot (now (s .entry)) i .valueRoom))) ⌝ }
-{
-    let v = value_at(s.len(), i);
-    runs::is_zero(s, v + n, 64 - n)
-}
-
-// Whether slot `i`, whose head is `h`, is laid out as an entry's.
-pub fn is_entry(s: &[u8], i: usize, h: Head) -> bool
-    requires { ⌜ HasSlot (length (now s)) i ⌝ }
-    requires { ⌜ h ≡ headOf (slot (now s) i) ⌝ }
-    ensures { λ r. ⌜ Decides r (IsEntry (now (s .entry)) i) ⌝ }
-{
-    if !h.live {
-        return false;
-    }
-    if h.zero != 0 {
-        return false;
-    }
-    let k = h.key_length;
-    if k > 48 {
-        return false;
-    }
-    let v = h.value_length;
-    if v > 64 {
-        return false;
-    }
-    if !key_padded(s, i, k) {
-        return false;
-    }
-    value_padded(s, i, v)
-}
-
-// Whether slot `i` is laid out as a free slot.
-pub fn is_free(s: &[u8], i: usize) -> bool
-    requires { ⌜ HasSlot (length (now s)) i ⌝ }
-    ensures { λ r. ⌜ Decides r (IsFree (now (s .entry)) i) ⌝ }
-{
-    let h = head_of(s, i);
-    if h.live {
-        return false;
-    }
-    if h.red {
-        return false;
-    }
-    if h.right != 0 {
-        return false;
-    }
-    if h.key_length != 0 {
-        return false;
-    }
-    if h.value_length != 0 {
-        return false;
-    }
-    if h.zero != 0 {
-        return false;
-    }
-    let k = key_at(s.len(), i);
-    if !runs::is_zero(s, k, 48) {
-        return false;
-    }
-    let v = value_at(s.len(), i);
-    if !runs::is_zero(s, v, 64) {
-        return false;
-    }
-    let d = digest_at(s.len(), i);
-    runs::is_zero(s, d, 32)
 }

@@ -22,6 +22,7 @@ use Rattle.store.specs.Calls.{refuse, createAnswer, countAnswer, isEmptyAnswer,
 use Rattle.store.proofs.Decoding.{on-sound, on-unsound}
 use Rattle.judge.specs.Steps.{Within}
 use Rattle.judge.proofs.Judging.{good-of}
+use Rattle.judge.proofs.Walking.{root-within as top-within}
 use Rattle.answers.specs.Answers.{changedOf}
 
 -- ---- create
@@ -111,11 +112,7 @@ module _ (s : List ℕ) (a : Sound s) {h : Header} (e : h ≡ header s) where
   root-some n y = found (y ∙ ap (digestOf s) root-is ∙ some-is (a .0 .tree) 0 (a .1 .laid .digests) (λ z. n (root-is ∙ z)))
 
   pub root-within : h .root ≤ header s .capacity
-  root-within = subst (λ (z : ℕ). z ≤ header s .capacity) (sym root-is) (within-root (header s .capacity) (a .0 .tree) (good-of s a .within))
-    where
-      within-root : (c : ℕ) (t : Tree) → Within c t → root t ≤ c
-      within-root c nil w = omega arith
-      within-root c (node o n l r) w = w .0 .1
+  root-within = subst (λ (z : ℕ). z ≤ header s .capacity) (sym root-is) (top-within (header s .capacity) (a .0 .tree) (good-of s a .within))
 
 -- ---- a digest copied
 

@@ -1,18 +1,17 @@
-// The calls that concern a store as a whole: create, count, is_empty, root_hash.
+// The calls that concern a store as a whole: create of any bytes; count, is_empty and root_hash of a sound store.
 use answers::BAD_CAPACITY;
 use answers::Counted;
 use answers::Digested;
 use answers::MAX_CAPACITY;
-use answers::NOT_SOUND;
 use answers::Told;
 use hash_tree::empty_hash;
-use judge::judge;
 use slots::Header;
 ghost use mathlib.Core.Path.{_≡_};
 ghost use Prim.Native.Nat.{_≤_};
 ghost use lib.ListN.{length};
 ghost use Rattle.slots.specs.Layout.{HasSlot, digestOf, zeros};
 ghost use Rattle.store.specs.Model.{fresh};
+ghost use Rattle.store.specs.Sound.{Sound};
 ghost use Rattle.store.specs.Encode.{encode};
 ghost use Rattle.store.specs.Calls.{createAnswer, countAnswer, isEmptyAnswer, rootHashAnswer};
 ghost use Rattle.judge.specs.Steps.{Sized};
@@ -85,16 +84,13 @@ pub fn create(s: &mut [u8], capacity: u64) -> usize
     0
 }
 
+// ---- of a sound store
+
 // The number of entries.
 pub fn count(s: &[u8]) -> Counted
+    requires { ⌜ Sound (now s) ⌝ }
     ensures { λ r. ⌜ r ≡ countAnswer (now (s .entry)) ⌝ }
 {
-    if !judge(s) {
-        return Counted {
-            number: NOT_SOUND,
-            count: 0,
-        };
-    }
     let h = slots::header_of(s);
     Counted {
         number: 0,
@@ -104,14 +100,9 @@ pub fn count(s: &[u8]) -> Counted
 
 // Whether there is no entry.
 pub fn is_empty(s: &[u8]) -> Told
+    requires { ⌜ Sound (now s) ⌝ }
     ensures { λ r. ⌜ r ≡ isEmptyAnswer (now (s .entry)) ⌝ }
 {
-    if !judge(s) {
-        return Told {
-            number: NOT_SOUND,
-            yes: false,
-        };
-    }
     let h = slots::header_of(s);
     Told {
         number: 0,
@@ -130,14 +121,9 @@ fn stored_digest(s: &[u8], i: usize) -> [u8; 32]
 
 // The digest of the whole map.
 pub fn root_hash(s: &[u8]) -> Digested
+    requires { ⌜ Sound (now s) ⌝ }
     ensures { λ r. ⌜ r ≡ rootHashAnswer (now (s .entry)) ⌝ }
 {
-    if !judge(s) {
-        return Digested {
-            number: NOT_SOUND,
-            digest: [0u8; 32],
-        };
-    }
     let h = slots::header_of(s);
     let root = h.root;
     if root == 0 {

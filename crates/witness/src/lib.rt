@@ -7,7 +7,6 @@ use hash_tree::LABELED;
 use hash_tree::LEAF;
 use hash_tree::PRUNED;
 use hash_tree::fork_hash;
-use hash_tree::labeled_hash;
 use hash_tree::leaf_hash;
 use output::Room;
 use output::less;
@@ -67,8 +66,7 @@ fn data_hash(s: &[u8], n: usize) -> [u8; 32]
     requires { ⌜ EntryAt (now s) n ⌝ }
     ensures { λ r. ⌜ r ≡ dataDigest (entryIn (now (s .entry)) n) ⌝ }
 {
-    let v = leaf_hash(value(s, n));
-    labeled_hash(key(s, n), &v)
+    entries::data_digest(s, n)
 }
 
 // `left_hash_tree`, `right_hash_tree`: Empty, or Pruned to the stored digest.

@@ -24,7 +24,7 @@ use Rattle.witness_trees.proofs.Calls.{as-hash-tree-is, keys-is, key-ra
 
 -- ---- a rule that is two tests on keys
 
-abbrev ruleOf : Bool → Bool → What
+abbrev pub ruleOf : Bool → Bool → What
 ruleOf label value = cond label (cond value Show Label) Hide
 
 module _ (f : Entry → What) (label value : Key → Bool) where
@@ -79,16 +79,16 @@ as-hash-tree-witness t = rw (as-hash-tree-is t) (shown-witness (λ e. Show) ever
 pub keys-witness : (t : Tree) → Witness t (pairs (entries t)) every nothing (keys t)
 keys-witness t = rw (keys-is t) (shown-witness (λ e. Label) every nothing t (λ e i. refl) (λ e h. refl))
 
-rule-keys : (a r : Bool) → cond a Label (cond (a || r) Label Hide) ≡ ruleOf (a || r) false
+pub rule-keys : (a r : Bool) → cond a Label (cond (a || r) Label Hide) ≡ ruleOf (a || r) false
 rule-keys true r = refl
 rule-keys false r = refl
 
-rule-values : (a r : Bool) → cond a Show (cond (a || r) Label Hide) ≡ ruleOf (a || r) a
+pub rule-values : (a r : Bool) → cond a Show (cond (a || r) Label Hide) ≡ ruleOf (a || r) a
 rule-values true r = refl
 rule-values false true = refl
 rule-values false false = refl
 
-or-left : (a r : Bool) → a ≡ true → (a || r) ≡ true
+pub or-left : (a r : Bool) → a ≡ true → (a || r) ≡ true
 or-left a r h = rw h
 
 pub key-range-witness : (first last : Key) (t : Tree) → Sorted (entries t) → Le first last

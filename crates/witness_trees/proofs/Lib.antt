@@ -1,4 +1,4 @@
--- What holds of every witness. Results: Laws (per call), Demand (after any history), Words, Root, Never, View, Loops, Cut.
+-- What holds of every witness. Results: Laws (per call), Demand (after any history), Words, Root, Never, View, Reversed, Loops, Cut.
 pub mod Shown
 pub mod Lists
 pub mod Walks
@@ -13,3 +13,4 @@ pub mod Root
 pub mod Loops
 pub mod Cut
 pub mod View
+pub mod Reversed

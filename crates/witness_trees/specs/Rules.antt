@@ -98,6 +98,29 @@ rangeRule first last ks w e = cond (within first last (e .key)) (seen w) (cond (
 abbrev pub prefixRule : Key → List Key → Entry → What
 prefixRule p ks e = cond (wantedPrefix p ks (e .key)) Label Hide
 
+-- ---- request Q-7: first above last, and the found bounds not crossed
+
+-- both bounds exist, and the low one is above the high one
+abbrev pub crossed : (low high : Option KeyBound) → Bool
+crossed none hi = false
+crossed (some lo) none = false
+crossed (some lo) (some hi) = below (at hi) (at lo)
+
+abbrev pub same : Key → Key → Bool
+same a b = pick (cmp a b) false true false
+
+-- k is first or last
+abbrev pub anEnd : (first last : Key) → Key → Bool
+anEnd first last k = same first k || same k last
+
+-- THE LABELS of such a range: the greatest key not above first (first itself, or the nearest below it) and the least key not below last
+abbrev pub wantedReversed : Key → Key → List Key → Key → Bool
+wantedReversed first last ks k = anEnd first last k || (nextBelow first ks k || nextAbove last ks k)
+
+-- what it shows of an entry: of first and last themselves the value too if asked for, of a neighbour only its key
+abbrev pub reversedRule : Key → Key → List Key → Form → Entry → What
+reversedRule first last ks w e = cond (anEnd first last (e .key)) (seen w) (cond (wantedReversed first last ks (e .key)) Label Hide)
+
 -- ---- of a map: its keys, the values of the keys that pass, each label with the value beside it where that is shown
 
 abbrev pub keysIn : List Pair → List Key

@@ -7,7 +7,6 @@ use crate::fork::kind_of_what;
 use crate::fork::records_of;
 use crate::fork::three_way_fork;
 use key_order::Ordering;
-use key_order::order;
 use search::KeyBound;
 use slots::key;
 ghost use mathlib.Core.Path.{_≡_};
@@ -127,7 +126,7 @@ fn compare_keys(s: &[u8], i: usize, j: usize) -> Ordering
     requires { ⌜ EntryAt (now s) j ⌝ }
     ensures { λ r. ⌜ r ≡ cmp (keyIn (now (s .entry)) i) (keyIn (now (s .entry)) j) ⌝ }
 {
-    order(key(s, i), key(s, j))
+    entries::compare_key(s, j, key(s, i))
 }
 
 fn witness_range_above(s: &[u8], n: usize, lo: KeyBound, f: What) -> Arm

@@ -1,7 +1,7 @@
 use mathlib.Core.Path.{sym, _∙_}
 use native.Mathlib.Omega.{arith}
 use Rattle.judge.proofs.Deciding.{decides-no, decides-yes, decides-via}
-use Rattle.judge.proofs.Testing.{colour-of, left-within, right-within, short-head, node-made, same-decides}
+use Rattle.judge.proofs.Testing.{colour-of, left-within, right-within, links-in, node-made, same-decides}
 use borrow.Author.Needs.{needs}
 use Rattle.judge.proofs.node_ok.Statement.{statement}
 use Rattle.judge.proofs.node_ok.Tie as tie
@@ -28,9 +28,9 @@ returns-4 : tie.Need-returns-4
 returns-4 c =
     λ a. decides-no (c .before .is-entry .result) (c .if4 .taken) (c .before .is-entry .ensures) (a .entry)
 
-node-digest-requires : tie.Need-node-digest-requires
-node-digest-requires c κs =
-    (c .before .before .before .before .before .before .before .before .before .pre .0, (c .before .before .before .before .before .before .before .before .before .pre .1 .0, (c .before .before .before .before .before .before .before .before .before .pre .1 .1, short-head (c .before .before .before .before .before .before .before .before .before .args .s .now) (c .before .before .before .before .before .before .before .before .before .args .cap) (c .before .before .before .before .before .before .before .before .before .args .i) (c .before .before .before .before .before .before .before .before .before .args .black) (c .before .before .before .before .before .before .before .before .before .pre .1 .1) (c .before .before .before .before .before .before .before .before .before .pre .1 .0) (c .before .before .before .before .if2 .left) (c .before .before .if3 .left) (decides-yes (c .before .is-entry .result) (c .if4 .left) (c .before .is-entry .ensures)))))
+subtree-digest-requires : tie.Need-subtree-digest-requires
+subtree-digest-requires c κs =
+    links-in (c .before .before .before .before .before .before .before .before .before .args .s .now) (c .before .before .before .before .before .before .before .before .before .args .cap) (c .before .before .before .before .before .before .before .before .before .args .i) (c .before .before .before .before .before .before .before .before .before .args .black) (c .before .before .before .before .before .before .before .before .before .pre .1 .1) (c .before .before .before .before .before .before .before .before .before .pre .0) (c .before .before .before .before .before .before .before .before .before .pre .1 .0) (c .before .before .before .before .if2 .left) (c .before .before .if3 .left) (decides-yes (c .before .is-entry .result) (c .if4 .left) (c .before .is-entry .ensures))
 
 digest-requires : tie.Need-digest-requires
 digest-requires c κs = search needs
@@ -44,8 +44,8 @@ same-requires c κs = search needs
 returns-5 : tie.Need-returns-5
 returns-5 c =
     decides-via (c .same .result)
-    (λ y. node-made (c .before .before .before .before .before .before .before .before .before .before .before .before .before .args .s .now) (c .before .before .before .before .before .before .before .before .before .before .before .before .before .args .cap) (c .before .before .before .before .before .before .before .before .before .before .before .before .before .args .i) (c .before .before .before .before .before .before .before .before .before .before .before .before .before .args .black) (c .before .before .before .before .before .before .before .before .before .before .before .before .before .pre .1 .1) (decides-yes (c .before .before .before .before .before .before .before .before .before .before .before .colour-ok .result) (c .before .before .before .before .before .before .before .before .before .before .if1 .left) (c .before .before .before .before .before .before .before .before .before .before .before .colour-ok .ensures)) (c .before .before .before .before .before .before .before .before .if2 .left) (c .before .before .before .before .before .before .if3 .left) (decides-yes (c .before .before .before .before .before .is-entry .result) (c .before .before .before .before .if4 .left) (c .before .before .before .before .before .is-entry .ensures)) (c .before .before .before .node-digest .ensures) (sym (c .before .before .digest .ensures) ∙ y))
-    (λ a. c .before .before .digest .ensures ∙ a .digest ∙ sym (c .before .before .before .node-digest .ensures))
+    (λ y. node-made (c .before .before .before .before .before .before .before .before .before .before .before .before .before .args .s .now) (c .before .before .before .before .before .before .before .before .before .before .before .before .before .args .cap) (c .before .before .before .before .before .before .before .before .before .before .before .before .before .args .i) (c .before .before .before .before .before .before .before .before .before .before .before .before .before .args .black) (c .before .before .before .before .before .before .before .before .before .before .before .before .before .pre .1 .1) (decides-yes (c .before .before .before .before .before .before .before .before .before .before .before .colour-ok .result) (c .before .before .before .before .before .before .before .before .before .before .if1 .left) (c .before .before .before .before .before .before .before .before .before .before .before .colour-ok .ensures)) (c .before .before .before .before .before .before .before .before .if2 .left) (c .before .before .before .before .before .before .if3 .left) (decides-yes (c .before .before .before .before .before .is-entry .result) (c .before .before .before .before .if4 .left) (c .before .before .before .before .before .is-entry .ensures)) (c .before .before .before .subtree-digest .ensures) (sym (c .before .before .digest .ensures) ∙ y))
+    (λ a. c .before .before .digest .ensures ∙ a .digest ∙ sym (c .before .before .before .subtree-digest .ensures))
     (same-decides _ _ _ (c .same .ensures))
 
 pub node-ok-spec : {M : Type 1} → statement M
@@ -58,7 +58,7 @@ node-ok-spec =
     returns-3
     is-entry-requires
     returns-4
-    node-digest-requires
+    subtree-digest-requires
     digest-requires
     slice-aggregate-same
     same-requires

@@ -9,41 +9,32 @@ use Rattle.slots.proofs.digest_at.Reads as digest-at-reads
 use Rattle.slots.proofs.key_at.Reads as key-at-reads
 use Rattle.slots.proofs.set_head.Reads as set-head-reads
 use Rattle.slots.proofs.value_at.Reads as value-at-reads
-use Rattle.slots.proofs.runs.wipe.Reads as wipe-reads
+use Rattle.runs.proofs.wipe.Reads as wipe-reads
 
--- src/lib.rt:439:5
 set-head-requires : tie.Need-set-head-requires
 set-head-requires c κs = search needs
 
--- src/lib.rt:452:9
 key-at-requires : tie.Need-key-at-requires
 key-at-requires c κs = search needs
 
--- src/lib.rt:453:5
 wipe-requires : tie.Need-wipe-requires
 wipe-requires c κs = search needs
 
--- src/lib.rt:454:9
 value-at-requires : tie.Need-value-at-requires
 value-at-requires c κs = search needs
 
--- src/lib.rt:455:5
 wipe-requires-2 : tie.Need-wipe-requires-2
 wipe-requires-2 c κs = search needs
 
--- src/lib.rt:456:9
 digest-at-requires : tie.Need-digest-at-requires
 digest-at-requires c κs = search needs
 
--- src/lib.rt:457:5
 wipe-requires-3 : tie.Need-wipe-requires-3
 wipe-requires-3 c κs = search needs
 
--- src/lib.rt:434:1
 same-length : tie.Need-same-length
 same-length c = search needs
 
--- src/lib.rt:434:1
 returns : tie.Need-returns
 returns c =
     clear-steps _ _ _ _ _ _ (slot-steps _ _ _ _ (c .before .before .before .before .before .before .before .before .before .before .before .before .before .before .before .before .before .before .before .before .pre .0) (c .before .before .before .before .before .before .before .before .before .before .before .before .before .before .before .before .before .set-head .ensures) _ _ _ _ _ refl (c .before .before .before .before .before .before .before .before .before .before .before .before .before .before .key-at .ensures .0) (c .before .before .before .before .before .before .before .before .before .before .before .before .wipe .ensures) (c .before .before .before .before .before .before .before .before .before .value-at .ensures .0) (c .before .before .before .before .before .before .before .wipe2 .ensures)) (c .before .before .before .before .digest-at .ensures .0) (c .before .before .wipe3 .ensures)

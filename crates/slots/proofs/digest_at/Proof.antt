@@ -5,23 +5,18 @@ use Rattle.slots.proofs.digest_at.Tie as tie
 use Rattle.slots.proofs.digest_at.Reads as reads
 use Rattle.slots.proofs.digest_at.Lts as lts
 
--- src/lib.rt:58:16
 sub-result : tie.Need-sub-result
 sub-result c = search needs
 
--- src/lib.rt:58:9
 mul-result : tie.Need-mul-result
 mul-result c = search needs
 
--- src/lib.rt:58:5
 add-result : tie.Need-add-result
 add-result c = search needs
 
--- src/lib.rt:58:5
 add-result-2 : tie.Need-add-result-2
 add-result-2 c = search needs
 
--- src/lib.rt:54:1
 returns : tie.Need-returns
 unfolding digestAt headAt
 returns c = search needs

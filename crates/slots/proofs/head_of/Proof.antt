@@ -5,17 +5,14 @@ use Rattle.slots.proofs.head_of.Tie as tie
 use Rattle.slots.proofs.head_of.Reads as reads
 use Rattle.slots.proofs.head_of.Lts as lts
 use Rattle.slots.proofs.head_at.Reads as head-at-reads
-use Rattle.slots.proofs.runs.six.Reads as six-reads
+use Rattle.runs.proofs.six.Reads as six-reads
 
--- src/lib.rt:192:9
 head-at-requires : tie.Need-head-at-requires
 head-at-requires c κs = search needs
 
--- src/lib.rt:193:9
 six-requires : tie.Need-six-requires
 six-requires c κs = search needs
 
--- src/lib.rt:188:1
 returns : tie.Need-returns
 returns c =
     head-is _ _ _ _ (c .before .head-at .ensures .0) (c .six .ensures)

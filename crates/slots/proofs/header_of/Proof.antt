@@ -4,13 +4,11 @@ use Rattle.slots.proofs.header_of.Statement.{statement}
 use Rattle.slots.proofs.header_of.Tie as tie
 use Rattle.slots.proofs.header_of.Reads as reads
 use Rattle.slots.proofs.header_of.Lts as lts
-use Rattle.slots.proofs.runs.eight.Reads as eight-reads
+use Rattle.runs.proofs.eight.Reads as eight-reads
 
--- src/lib.rt:129:9
 eight-requires : tie.Need-eight-requires
 eight-requires c κs = search needs
 
--- src/lib.rt:125:1
 returns : tie.Need-returns
 returns c =
     header-is _ _ (c .eight .ensures)

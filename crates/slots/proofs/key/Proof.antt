@@ -7,16 +7,13 @@ use Rattle.slots.proofs.key.Lts as lts
 use Rattle.slots.proofs.head_of.Reads as head-of-reads
 use Rattle.slots.proofs.key_part.Reads as key-part-reads
 
--- src/lib.rt:309:13
 head-of-requires : tie.Need-head-of-requires
 head-of-requires c κs = search needs
 
--- src/lib.rt:310:5
 key-part-requires : tie.Need-key-part-requires
 key-part-requires c κs =
     (c .before .before .pre .0, key-length-fits _ _ (c .head-of .ensures) (c .before .before .pre .1))
 
--- src/lib.rt:304:1
 returns : tie.Need-returns
 returns c =
     key-is _ _ (c .before .head-of .ensures) _ (c .key-part .ensures)

@@ -5,23 +5,18 @@ use Rattle.slots.proofs.key_at.Tie as tie
 use Rattle.slots.proofs.key_at.Reads as reads
 use Rattle.slots.proofs.key_at.Lts as lts
 
--- src/lib.rt:44:16
 sub-result : tie.Need-sub-result
 sub-result c = search needs
 
--- src/lib.rt:44:9
 mul-result : tie.Need-mul-result
 mul-result c = search needs
 
--- src/lib.rt:44:5
 add-result : tie.Need-add-result
 add-result c = search needs
 
--- src/lib.rt:44:5
 add-result-2 : tie.Need-add-result-2
 add-result-2 c = search needs
 
--- src/lib.rt:40:1
 returns : tie.Need-returns
 unfolding keyAt headAt
 returns c = search needs

@@ -6,27 +6,21 @@ use Rattle.slots.proofs.key_part.Reads as reads
 use Rattle.slots.proofs.key_part.Lts as lts
 use Rattle.slots.proofs.key_at.Reads as key-at-reads
 
--- src/lib.rt:289:9
 key-at-requires : tie.Need-key-at-requires
 key-at-requires c κs = search needs
 
--- src/lib.rt:290:13
 add-e : tie.Need-add-e
 add-e c = search needs
 
--- src/lib.rt:291:5
 sub-result : tie.Need-sub-result
 sub-result c = search needs
 
--- src/lib.rt:291:5
 part-result-start : tie.Need-part-result-start
 part-result-start c = search needs
 
--- src/lib.rt:291:5
 part-result-end : tie.Need-part-result-end
 part-result-end c = search needs
 
--- src/lib.rt:284:1
 returns : tie.Need-returns
 returns c = key-front _ _ _ _ (c .before .key-at .ensures .0) (c .before .before .before .pre .1)
 

@@ -6,35 +6,28 @@ use Rattle.slots.proofs.put_entry.Tie as tie
 use Rattle.slots.proofs.put_entry.Reads as reads
 use Rattle.slots.proofs.put_entry.Lts as lts
 use Rattle.slots.proofs.key_at.Reads as key-at-reads
-use Rattle.slots.proofs.runs.put_padded.Reads as put-padded-reads
+use Rattle.runs.proofs.put_padded.Reads as put-padded-reads
 use Rattle.slots.proofs.set_head.Reads as set-head-reads
 use Rattle.slots.proofs.value_at.Reads as value-at-reads
 
--- src/lib.rt:382:5
 set-head-requires : tie.Need-set-head-requires
 set-head-requires c κs = search needs
 
--- src/lib.rt:395:9
 key-at-requires : tie.Need-key-at-requires
 key-at-requires c κs = search needs
 
--- src/lib.rt:396:5
 put-padded-requires : tie.Need-put-padded-requires
 put-padded-requires c κs = search needs
 
--- src/lib.rt:397:9
 value-at-requires : tie.Need-value-at-requires
 value-at-requires c κs = search needs
 
--- src/lib.rt:398:5
 put-padded-requires-2 : tie.Need-put-padded-requires-2
 put-padded-requires-2 c κs = search needs
 
--- src/lib.rt:377:1
 same-length : tie.Need-same-length
 same-length c = search needs
 
--- src/lib.rt:377:1
 returns : tie.Need-returns
 returns c =
     slot-steps _ _ _ _ (c .before .before .before .before .before .before .before .before .before .before .before .before .before .before .before .before .before .pre .0) (c .before .before .before .before .before .before .before .before .before .before .before .before .set-head .ensures) _ _ _ _ _ refl (c .before .before .before .before .before .before .before .before .before .key-at .ensures .0) (c .before .before .before .before .before .before .before .put-padded .ensures) (c .before .before .before .before .value-at .ensures .0) (c .before .before .put-padded2 .ensures)

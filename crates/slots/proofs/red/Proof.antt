@@ -7,11 +7,9 @@ use Rattle.slots.proofs.red.Reads as reads
 use Rattle.slots.proofs.red.Lts as lts
 use Rattle.slots.proofs.head_of.Reads as head-of-reads
 
--- src/lib.rt:278:5
 head-of-requires : tie.Need-head-of-requires
 head-of-requires c κs = search needs
 
--- src/lib.rt:274:1
 returns : tie.Need-returns
 returns c =
     ap (λ (h : Head). h .red) (c .head-of .ensures)

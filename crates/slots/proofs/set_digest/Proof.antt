@@ -1,4 +1,5 @@
-use Rattle.slots.proofs.Copying.{copied-32, digest-set}
+use Rattle.runs.proofs.Runs.{copied-32}
+use Rattle.slots.proofs.Copying.{digest-set}
 use borrow.Author.Needs.{needs}
 use Rattle.slots.proofs.set_digest.Statement.{statement}
 use Rattle.slots.proofs.set_digest.Tie as tie
@@ -7,35 +8,27 @@ use Rattle.slots.proofs.set_digest.Lts as lts
 use Rattle.bytes.proofs.copy.Reads as copy-reads
 use Rattle.slots.proofs.digest_at.Reads as digest-at-reads
 
--- src/lib.rt:335:9
 digest-at-requires : tie.Need-digest-at-requires
 digest-at-requires c κs = search needs
 
--- src/lib.rt:336:13
 add-e : tie.Need-add-e
 add-e c = search needs
 
--- src/lib.rt:337:20
 sub-copy : tie.Need-sub-copy
 sub-copy c = search needs
 
--- src/lib.rt:337:20
 part-copy-start : tie.Need-part-copy-start
 part-copy-start c = search needs
 
--- src/lib.rt:337:20
 part-copy-end : tie.Need-part-copy-end
 part-copy-end c = search needs
 
--- src/lib.rt:337:5
 copy-requires : tie.Need-copy-requires
 copy-requires c κs = search needs
 
--- src/lib.rt:331:1
 same-length : tie.Need-same-length
 same-length c = search needs
 
--- src/lib.rt:331:1
 returns : tie.Need-returns
 returns c =
     digest-set _ _ _ _ _ (c .before .before .before .before .before .digest-at .ensures .0) (copied-32 (c .before .before .before .before .before .before .before .args .s .now) (c .before .before .before .before .before .before .before .args .d .now) _ _ (c .before .before .before .before .before .digest-at .ensures .1) (search needs) (c .before .before .copy .ensures .1))

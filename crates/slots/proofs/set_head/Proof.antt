@@ -6,77 +6,59 @@ use Rattle.slots.proofs.set_head.Reads as reads
 use Rattle.slots.proofs.set_head.Lts as lts
 use Rattle.slots.proofs.bit_of.Reads as bit-of-reads
 use Rattle.slots.proofs.head_at.Reads as head-at-reads
-use Rattle.slots.proofs.runs.put_six.Reads as put-six-reads
+use Rattle.runs.proofs.put_six.Reads as put-six-reads
 
--- src/lib.rt:217:9
 head-at-requires : tie.Need-head-at-requires
 head-at-requires c κs = search needs
 
--- src/lib.rt:221:9
 bit-of-requires : tie.Need-bit-of-requires
 bit-of-requires c κs = search needs
 
--- src/lib.rt:221:9
 mul-put-six : tie.Need-mul-put-six
 mul-put-six c = search needs
 
--- src/lib.rt:222:15
 bit-of-requires-2 : tie.Need-bit-of-requires-2
 bit-of-requires-2 c κs = search needs
 
--- src/lib.rt:222:15
 mul-put-six-2 : tie.Need-mul-put-six-2
 mul-put-six-2 c = search needs
 
--- src/lib.rt:221:9
 add-put-six : tie.Need-add-put-six
 add-put-six c = search needs
 
--- src/lib.rt:223:15
 mul-put-six-3 : tie.Need-mul-put-six-3
 mul-put-six-3 c = search needs
 
--- src/lib.rt:221:9
 add-put-six-2 : tie.Need-add-put-six-2
 add-put-six-2 c = search needs
 
--- src/lib.rt:224:15
 mul-put-six-4 : tie.Need-mul-put-six-4
 mul-put-six-4 c = search needs
 
--- src/lib.rt:221:9
 add-put-six-3 : tie.Need-add-put-six-3
 add-put-six-3 c = search needs
 
--- src/lib.rt:225:15
 mul-put-six-5 : tie.Need-mul-put-six-5
 mul-put-six-5 c = search needs
 
--- src/lib.rt:221:9
 add-put-six-4 : tie.Need-add-put-six-4
 add-put-six-4 c = search needs
 
--- src/lib.rt:226:15
 mul-put-six-6 : tie.Need-mul-put-six-6
 mul-put-six-6 c = search needs
 
--- src/lib.rt:221:9
 add-put-six-5 : tie.Need-add-put-six-5
 add-put-six-5 c = search needs
 
--- src/lib.rt:221:9
 add-put-six-6 : tie.Need-add-put-six-6
 add-put-six-6 c = search needs
 
--- src/lib.rt:218:5
 put-six-requires : tie.Need-put-six-requires
 put-six-requires c κs = search needs
 
--- src/lib.rt:212:1
 same-length : tie.Need-same-length
 same-length c = search needs
 
--- src/lib.rt:212:1
 returns : tie.Need-returns
 returns c =
     head-set _ _ _ _ _ _ _ (c .before .before .before .before .before .before .before .before .pre .0) (c .before .before .before .before .before .before .head-at .ensures .0) (c .before .before .before .before .bit-of .ensures .0) (c .before .before .before .bit-of2 .ensures .0) (c .before .before .put-six .ensures)

@@ -4,57 +4,44 @@ use Rattle.slots.proofs.set_header.Statement.{statement}
 use Rattle.slots.proofs.set_header.Tie as tie
 use Rattle.slots.proofs.set_header.Reads as reads
 use Rattle.slots.proofs.set_header.Lts as lts
-use Rattle.slots.proofs.runs.put_eight.Reads as put-eight-reads
+use Rattle.runs.proofs.put_eight.Reads as put-eight-reads
 
--- src/lib.rt:147:9
 mul-put-eight : tie.Need-mul-put-eight
 mul-put-eight c = search needs
 
--- src/lib.rt:148:15
 mul-put-eight-2 : tie.Need-mul-put-eight-2
 mul-put-eight-2 c = search needs
 
--- src/lib.rt:147:9
 add-put-eight : tie.Need-add-put-eight
 add-put-eight c = search needs
 
--- src/lib.rt:149:15
 mul-put-eight-3 : tie.Need-mul-put-eight-3
 mul-put-eight-3 c = search needs
 
--- src/lib.rt:147:9
 add-put-eight-2 : tie.Need-add-put-eight-2
 add-put-eight-2 c = search needs
 
--- src/lib.rt:150:15
 mul-put-eight-4 : tie.Need-mul-put-eight-4
 mul-put-eight-4 c = search needs
 
--- src/lib.rt:147:9
 add-put-eight-3 : tie.Need-add-put-eight-3
 add-put-eight-3 c = search needs
 
--- src/lib.rt:151:15
 mul-put-eight-5 : tie.Need-mul-put-eight-5
 mul-put-eight-5 c = search needs
 
--- src/lib.rt:147:9
 add-put-eight-4 : tie.Need-add-put-eight-4
 add-put-eight-4 c = search needs
 
--- src/lib.rt:147:9
 add-put-eight-5 : tie.Need-add-put-eight-5
 add-put-eight-5 c = search needs
 
--- src/lib.rt:145:5
 put-eight-requires : tie.Need-put-eight-requires
 put-eight-requires c κs = search needs
 
--- src/lib.rt:140:1
 same-length : tie.Need-same-length
 same-length c = search needs
 
--- src/lib.rt:140:1
 returns : tie.Need-returns
 returns c =
     header-set _ _ _ (c .before .before .put-eight .ensures)

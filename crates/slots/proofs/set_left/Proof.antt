@@ -7,20 +7,16 @@ use Rattle.slots.proofs.set_left.Lts as lts
 use Rattle.slots.proofs.head_of.Reads as head-of-reads
 use Rattle.slots.proofs.set_head.Reads as set-head-reads
 
--- src/lib.rt:245:9
 head-of-requires : tie.Need-head-of-requires
 head-of-requires c κs = search needs
 
--- src/lib.rt:247:5
 set-head-requires : tie.Need-set-head-requires
 set-head-requires c κs =
     (c .before .before .before .before .pre .0, head-left-fits _ (c .before .before .before .before .pre .0) (c .before .head-of .ensures) (c .before .before .before .before .pre .1))
 
--- src/lib.rt:240:1
 same-length : tie.Need-same-length
 same-length c = search needs
 
--- src/lib.rt:240:1
 returns : tie.Need-returns
 returns c =
     head-left-set _ _ _ _ (c .before .before .before .before .head-of .ensures) (c .before .before .set-head .ensures)

@@ -7,20 +7,16 @@ use Rattle.slots.proofs.set_red.Lts as lts
 use Rattle.slots.proofs.head_of.Reads as head-of-reads
 use Rattle.slots.proofs.set_head.Reads as set-head-reads
 
--- src/lib.rt:235:9
 head-of-requires : tie.Need-head-of-requires
 head-of-requires c κs = search needs
 
--- src/lib.rt:237:5
 set-head-requires : tie.Need-set-head-requires
 set-head-requires c κs =
     (c .before .before .before .before .pre, head-red-fits _ (c .before .before .before .before .pre) (c .before .head-of .ensures))
 
--- src/lib.rt:231:1
 same-length : tie.Need-same-length
 same-length c = search needs
 
--- src/lib.rt:231:1
 returns : tie.Need-returns
 returns c =
     head-red-set _ _ _ _ (c .before .before .before .before .head-of .ensures) (c .before .before .set-head .ensures)

@@ -7,20 +7,16 @@ use Rattle.slots.proofs.set_root.Lts as lts
 use Rattle.slots.proofs.header_of.Reads as header-of-reads
 use Rattle.slots.proofs.set_header.Reads as set-header-reads
 
--- src/lib.rt:171:9
 header-of-requires : tie.Need-header-of-requires
 header-of-requires c κs = search needs
 
--- src/lib.rt:173:5
 set-header-requires : tie.Need-set-header-requires
 set-header-requires c κs =
     (c .before .before .before .before .pre .0, root-fits _ (c .before .header-of .ensures) (c .before .before .before .before .pre .1))
 
--- src/lib.rt:166:1
 same-length : tie.Need-same-length
 same-length c = search needs
 
--- src/lib.rt:166:1
 returns : tie.Need-returns
 returns c =
     root-set _ _ _ (c .before .before .before .before .header-of .ensures) (c .before .before .set-header .ensures)

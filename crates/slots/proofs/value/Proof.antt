@@ -7,16 +7,13 @@ use Rattle.slots.proofs.value.Lts as lts
 use Rattle.slots.proofs.head_of.Reads as head-of-reads
 use Rattle.slots.proofs.value_part.Reads as value-part-reads
 
--- src/lib.rt:318:13
 head-of-requires : tie.Need-head-of-requires
 head-of-requires c κs = search needs
 
--- src/lib.rt:319:5
 value-part-requires : tie.Need-value-part-requires
 value-part-requires c κs =
     (c .before .before .pre .0, value-length-fits _ _ (c .head-of .ensures) (c .before .before .pre .1))
 
--- src/lib.rt:313:1
 returns : tie.Need-returns
 returns c =
     value-is _ _ (c .before .head-of .ensures) _ (c .value-part .ensures)

@@ -6,27 +6,21 @@ use Rattle.slots.proofs.value_part.Reads as reads
 use Rattle.slots.proofs.value_part.Lts as lts
 use Rattle.slots.proofs.value_at.Reads as value-at-reads
 
--- src/lib.rt:299:9
 value-at-requires : tie.Need-value-at-requires
 value-at-requires c κs = search needs
 
--- src/lib.rt:300:13
 add-e : tie.Need-add-e
 add-e c = search needs
 
--- src/lib.rt:301:5
 sub-result : tie.Need-sub-result
 sub-result c = search needs
 
--- src/lib.rt:301:5
 part-result-start : tie.Need-part-result-start
 part-result-start c = search needs
 
--- src/lib.rt:301:5
 part-result-end : tie.Need-part-result-end
 part-result-end c = search needs
 
--- src/lib.rt:294:1
 returns : tie.Need-returns
 returns c = value-front _ _ _ _ (c .before .value-at .ensures .0) (c .before .before .before .pre .1)
 

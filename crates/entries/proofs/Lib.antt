@@ -1,0 +1,2 @@
+-- The entry in a slot: what its digests are.
+pub mod Laws

@@ -1,0 +1,2 @@
+-- The entry in a slot.
+pub mod Digests

@@ -1,0 +1,64 @@
+use Prim.Native.Nat.{_≤_, _-_}
+use mathlib.Core.Path.{_≡_, refl, _∙_}
+use native.Mathlib.Omega.{arith}
+use lib.ListN.{length, length-set}
+use lib.Seq.{sets}
+use Rattle.runs.specs.Runs.{zeros}
+use Rattle.runs.proofs.Runs.{wipe-next}
+use Rattle.runs.proofs.wipe.Statement.{statement}
+use Rattle.runs.proofs.wipe.Tie as tie
+use Rattle.runs.proofs.wipe.Reads as reads
+use Rattle.runs.proofs.wipe.Lts as lts
+
+abbrev Inv-loop : tie.InvT-loop
+Inv-loop s₀ a n i₀ s i = (i ≤ n) × (length s ≡ length s₀) × (s ≡ sets s₀ a (zeros i))
+
+abbrev μ-loop : tie.MeasureT-loop
+μ-loop s₀ a n i₀ s i = n - i
+
+loop-holds : tie.Need-loop-holds Inv-loop μ-loop
+unfolding zeros
+loop-holds c =
+    (omega arith, refl, refl)
+
+add-s : tie.Need-add-s Inv-loop μ-loop
+add-s c =
+    omega arith
+
+slice-write-s : tie.Need-slice-write-s Inv-loop μ-loop
+slice-write-s c =
+    omega (arith, c .before .loop .inv .1)
+
+add-i : tie.Need-add-i Inv-loop μ-loop
+add-i c =
+    omega arith
+
+loop-less : tie.Need-loop-less Inv-loop μ-loop
+loop-less c =
+    omega arith
+
+loop-again : tie.Need-loop-again Inv-loop μ-loop
+loop-again c =
+    (omega arith, simp length-set (c .before .loop .inv .1), rw (c .before .loop .inv .2) (wipe-next (c .before .before .args .s .now) (c .before .before .args .a) (c .before .loop .i)))
+
+same-length : tie.Need-same-length Inv-loop μ-loop
+same-length c = c .before .loop .inv .1
+
+returns : tie.Need-returns Inv-loop μ-loop
+returns c =
+    let e : c .before .loop .i ≡ c .before .before .args .n = omega arith in c .before .loop .inv .2 ∙ rw e
+
+pub wipe-spec : {M : Type 1} → statement M
+wipe-spec =
+    tie.close
+    (tie.spec
+    Inv-loop
+    μ-loop
+    loop-holds
+    add-s
+    slice-write-s
+    add-i
+    loop-less
+    loop-again
+    same-length
+    returns)

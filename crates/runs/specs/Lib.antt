@@ -1,0 +1,3 @@
+-- Runs of bits and of bytes.
+pub mod Bits
+pub mod Runs

@@ -1,0 +1,2 @@
+-- What the tests of a slot decide.
+pub mod Testing

@@ -1,0 +1,17 @@
+-- The edition and the lengths of a store (document 01, "Store layout"); its limits are those of crate answers.
+use Prim.Native.Nat.{ℕ, _+_, _*_}
+pub use Rattle.answers.specs.Numbers.{maxCapacity, maxKey, maxValue}
+
+abbrev pub edition : ℕ
+edition = 1
+
+-- bytes in the header, and in a slot: its head, its key, its value and its digest
+abbrev pub headerLength : ℕ
+headerLength = 8
+
+abbrev pub slotLength : ℕ
+slotLength = 150
+
+-- the length of a store of this capacity
+abbrev pub storeLength : (capacity : ℕ) → ℕ
+storeLength cap = headerLength + slotLength * cap
