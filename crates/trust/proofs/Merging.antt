@@ -1,5 +1,6 @@
--- TWO WITNESSES OF ONE ROOT MERGE, or a message hashed for the one collides with one hashed for the other: so 15 says that the digests differ. Two witnesses that tell the
--- truth of one store merge, to one that does; so any two that our own calls wrote of a sound store do.
+-- TWO WITNESSES OF ONE ROOT MERGE, or a message hashed for the one collides with one hashed for the other: so 15 says that the digests
+-- differ. Two witnesses that tell the truth of one store merge, to one that does; so any two that our own calls wrote of a sound store
+-- do.
 use Prim.Native.Nat.{ℕ, _≤_}
 use mathlib.Core.Path.{_≡_, refl, sym, ap, _∙_}
 use mathlib.Core.Bool.{Bool, true, false, cond}
@@ -106,7 +107,8 @@ fifteen v w out bv bw n e =
 
 -- ---- of one store
 
--- THE MERGE OF TWO WITNESSES OF THE STORE s: its tree, which tells the truth of s, and answers for both: it is silent of a key only if both are
+-- THE MERGE OF TWO WITNESSES OF THE STORE s: its tree, which tells the truth of s, and answers for both: it is silent of a key only if
+-- both are
 pub record JoinsTrue (s v w out : List ℕ) : Type 0 where
   pub tree : HashTree
   pub answer : mergeAnswer v w out ≡ putFront out (write tree)
@@ -116,7 +118,8 @@ pub record JoinsTrue (s v w out : List ℕ) : Type 0 where
   pub never15 : mergeAnswer v w out .number ≡ 15 → ⊥
 
 -- of a file by the tree that it is
-silent-in : (v : List ℕ) (x t : HashTree) → Reads v x → WellFormed x → Prunes x t → Lawful maxDepth t → WellFormed t → (k : Key) → length k ≤ 48
+silent-in : (v : List ℕ) (x t : HashTree) → Reads v x → WellFormed x → Prunes x t → Lawful maxDepth t → WellFormed t → (k : Key)
+    → length k ≤ 48
     → lookupAnswer k (write t) .looked ≡ looked.Unknown → lookupAnswer k v .looked ≡ looked.Unknown
 silent-in v x t r wx p l wt k n e = rw (r .0) (silent-too x t p (r .1) l wx wt k n e)
 
@@ -136,6 +139,7 @@ truths-merge s h x y v w p q out =
     }
 
 -- ANY TWO WITNESSES THAT THE LIBRARY WROTE of one sound store, by any of the six calls, merge
-pub own-merge : (s : List ℕ) → Sound s → {o p : List ℕ} {f g i j : Key → Bool} {A B : Key → Type 0} {a b : Written} → Wrote s o f g A a → Wrote s p i j B b → (out : List ℕ)
+pub own-merge : (s : List ℕ) → Sound s → {o p : List ℕ} {f g i j : Key → Bool} {A B : Key → Type 0} {a b : Written} → Wrote s o f g A a
+    → Wrote s p i j B b → (out : List ℕ)
     → JoinsTrue s (bytesOf a) (bytesOf b) out
 own-merge s h {a = a} {b = b} v w out = truths-merge s h (v .tree) (w .tree) (bytesOf a) (bytesOf b) (v .truth) (w .truth) out

@@ -105,7 +105,8 @@ module _ (f : Entry → What) where
     highs : Traces f high R
 
   -- one label, or one hidden run, further left
-  past-label : (k : Key) (x : HashTree) (L : List HashTree) (o s : Entry) (S : List Entry) (e : Entry) (R : List Entry) → s ≡ o → isHide (f o) ≡ false → Labeled k x ≡ item (f o) o
+  past-label : (k : Key) (x : HashTree) (L : List HashTree) (o s : Entry) (S : List Entry) (e : Entry) (R : List Entry) → s ≡ o
+      → isHide (f o) ≡ false → Labeled k x ≡ item (f o) o
       → Seen L S e R → Seen (Labeled k x ∷ L) (s ∷ S) e R
   past-label k x L o s S e R w n h r =
       record {
@@ -118,7 +119,8 @@ module _ (f : Entry → What) where
         highs = r .highs;
       }
 
-  past-hidden : (d : Digest) (L : List HashTree) (o : Entry) (T P S : List Entry) (e : Entry) (R : List Entry) → S ≡ o ∷ (T ++ P) → quiet f (o ∷ T) ≡ true
+  past-hidden : (d : Digest) (L : List HashTree) (o : Entry) (T P S : List Entry) (e : Entry) (R : List Entry) → S ≡ o ∷ (T ++ P)
+      → quiet f (o ∷ T) ≡ true
       → Seen L P e R → Seen (Pruned d ∷ L) S e R
   past-hidden d L o T P S e R w n r =
       record {
@@ -131,7 +133,8 @@ module _ (f : Entry → What) where
         highs = r .highs;
       }
 
-  label-at : (L : List HashTree) (M S : List Entry) (e : Entry) (R : List Entry) → Traces f L M → M ≡ S ++ (e ∷ R) → isHide (f e) ≡ false → Seen L S e R
+  label-at : (L : List HashTree) (M S : List Entry) (e : Entry) (R : List Entry) → Traces f L M → M ≡ S ++ (e ∷ R)
+      → isHide (f e) ≡ false → Seen L S e R
   label-at [] M S e R c q n = absurd (not-nil f S e R (sym q ∙ c))
   label-at (Empty ∷ L) M S e R c q n = absurd c
   label-at (Fork l r ∷ L) M S e R c q n = absurd c
@@ -171,7 +174,8 @@ module _ (f : Entry → What) where
         → L ≡ r .low ++ (Labeled (e .key) (r .child) ∷ Labeled (y .key) (t .child) ∷ t .high)
     seen-two r t = r .stands ∙ ap (λ (X : List HashTree). r .low ++ (Labeled (e .key) (r .child) ∷ X)) (t .stands ∙ first t)
       where
-        first : {y : Entry} {R : List Entry} {K : List HashTree} (t : Seen K [] y R) → t .low ++ (Labeled (y .key) (t .child) ∷ t .high) ≡ Labeled (y .key) (t .child) ∷ t .high
+        first : {y : Entry} {R : List Entry} {K : List HashTree} (t : Seen K [] y R)
+            → t .low ++ (Labeled (y .key) (t .child) ∷ t .high) ≡ Labeled (y .key) (t .child) ∷ t .high
         first {y = y} t = ap (λ (X : List HashTree). X ++ (Labeled (y .key) (t .child) ∷ t .high)) (traces-nil f (t .low) [] (t .lows) refl)
 
   -- ---- so a key is known of where f shows it, or else the keys next to it
@@ -219,7 +223,8 @@ module _ (f : Entry → What) where
   in-split (here {L = L}) = ([], L, refl)
   in-split (there {x = x} i) = let r = in-split i in (x ∷ r .0, r .1, ap {B = List Entry} (λ (X : List Entry). x ∷ X) (r .2))
 
-  seen-value : (L : List HashTree) (S : List Entry) (e : Entry) (R : List Entry) → f e ≡ Show → Seen L S e R → Found (e .key) (Leaf (e .value)) L
+  seen-value : (L : List HashTree) (S : List Entry) (e : Entry) (R : List Entry) → f e ≡ Show → Seen L S e R
+      → Found (e .key) (Leaf (e .value)) L
   seen-value L S e R h r =
       let q : Labeled (e .key) (r .child) ≡ Labeled (e .key) (Leaf (e .value)) = r .own ∙ ap (λ (w : What). item w e) h in
       let c : r .child ≡ Leaf (e .value) = cc in
