@@ -3,8 +3,8 @@ use mathlib.Core.Bool.{true, false}
 use Rattle.key_order.specs.Order.{pick}
 use Rattle.key_order.specs.declared.Ordering.{Ordering}
 use borrow.Author.Needs.{needs}
-use Rattle.timed.proofs.witnesses.above.Statement.{statement}
-use Rattle.timed.proofs.witnesses.above.Tie as tie
+use Rattle.timed.proofs.above.Statement.{statement}
+use Rattle.timed.proofs.above.Tie as tie
 
 compare-requires : tie.Need-compare-requires
 compare-requires c κs = search needs
