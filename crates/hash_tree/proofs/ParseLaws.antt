@@ -1,19 +1,22 @@
 -- The laws of the parse. A tree written and then parsed comes back, with the rest; what parses is what was written, and is lawful; so no
--- written form is the front of another.
-use Prim.Native.Nat.{ℕ, zero, suc, _+_, _-_, _<_, _≤_, max}
-use mathlib.Core.Path.{_≡_, refl, ap}
-use mathlib.Core.List.{List, [], _∷_, _++_, append-assoc}
+-- written form is the front of another. Each is proofs/Forms' law, of document 01's form.
+use Prim.Native.Nat.{ℕ, zero, suc, _+_, _<_, _≤_}
+use mathlib.Core.Path.{_≡_, refl, sym, ap, subst, fun-ext, _∙_}
+use mathlib.Core.List.{List, [], _++_}
 use native.Mathlib.Omega.{arith}
-use native.Mathlib.Nat.{not-suc-le-zero, le-max-left, le-max-right, max-le}
-use lib.ListN.{length, take, drop, length-append}
-use lib.Seq.{getD-drop, getD-append-add, take-at, drop-at}
-use lib.Dec.{lit≤, lit<}
+use lib.ListN.{length, length-append}
+use lib.Seq.{take-at, drop-at}
+use lib.Dec.{lit<}
 use Rattle.hash_tree.specs.declared.Record.{Record}
+use Rattle.hash_tree.specs.declared.Record.the-variants.{Whole, Malformed}
 use Rattle.hash_tree.specs.HashTree.{HashTree, Empty, Fork, Labeled, Leaf, Pruned}
-use Rattle.hash_tree.specs.Written.{write, piece, size, depth, Lengths, Lawful, maxLabel, maxValue, digestLen}
-use Rattle.hash_tree.specs.Record.{recordOf, kindOf, lenOf, least, most}
-use Rattle.hash_tree.specs.Parse.{Parsed, Got, Bad, parse, grow, byKind, labeled, forked, fork, Bytes}
+use Rattle.hash_tree.specs.Written.{write, piece, size, Lengths, Lawful, maxLabel, maxValue, digestLen}
+use Rattle.hash_tree.specs.Record.{recordOf, least, most}
+use Rattle.hash_tree.specs.Parse.{Parsed, Got, Bad, parse, grow, byKind, labeled, fork, Bytes}
+use Rattle.hash_tree.specs.Form.{Taken, Fits, writeBy, growBy, parseBy, frontOf, written}
 use Rattle.hash_tree.proofs.RecordLaws.{View, whole, bad, view, piece-opens, body-length, piece-back}
+use Rattle.hash_tree.proofs.Forms.{Seen, Opening, ReadBy, written-parsed, parsed-written, prefix-free-by, unique-by}
+pub use Rattle.hash_tree.proofs.Lawfulness.{depth-pos, lawful-left, lawful-right, lawful-fork, lawful-below, lawful-labeled, bytes-rest, bytes-drop}
 
 -- how long a written form is
 pub length-piece : (k : ℕ) (b : List ℕ) → length (piece k b) ≡ 2 + length b
@@ -27,31 +30,6 @@ length-write (Fork l r) = rw (length-append (piece 1 []) (write l ++ write r), l
 length-write (Labeled b t) = rw (length-append (piece 2 b) (write t), length-piece 2 b, length-write t) (omega arith)
 length-write (Leaf b) = length-piece 3 b
 length-write (Pruned b) = length-piece 4 b
-
--- the depth of a part
-pub depth-pos : (t : HashTree) → 1 ≤ depth t
-depth-pos Empty = lit≤ tt
-depth-pos (Fork l r) = omega arith
-depth-pos (Labeled b t) = omega arith
-depth-pos (Leaf b) = lit≤ tt
-depth-pos (Pruned b) = lit≤ tt
-
-module _ (d : ℕ) (l r : HashTree) where
-  pub lawful-left : Lawful (suc d) (Fork l r) → Lawful d l
-  lawful-left h = (h .0 .0, omega (arith, h .1, le-max-left (depth l) (depth r)))
-
-  pub lawful-right : Lawful (suc d) (Fork l r) → Lawful d r
-  lawful-right h = (h .0 .1, omega (arith, h .1, le-max-right (depth l) (depth r)))
-
-  pub lawful-fork : Lawful d l → Lawful d r → Lawful (suc d) (Fork l r)
-  lawful-fork h g = let m : max (depth l) (depth r) ≤ d = max-le (h .1) (g .1) in ((h .0, g .0), omega (arith, m))
-
-module _ (d : ℕ) (b : List ℕ) (t : HashTree) where
-  pub lawful-below : Lawful (suc d) (Labeled b t) → Lawful d t
-  lawful-below h = (h .0 .1, omega (arith, h .1))
-
-  pub lawful-labeled : length b ≤ maxLabel → Lawful d t → Lawful (suc d) (Labeled b t)
-  lawful-labeled n h = ((n, h .0), omega (arith, h .1))
 
 -- a written record is parsed by its kind
 pub parse-piece : (k : ℕ) (b rest : List ℕ) → k < 5 → least k ≤ length b → length b ≤ most k → (d : ℕ) → parse (suc d) (piece k b ++ rest) ≡ byKind (parse d) k b rest
@@ -79,64 +57,55 @@ module _ (d : ℕ) where
   unfolding least most
   parse-pruned b rest h = parse-piece 4 b rest (lit< tt) (omega arith) (omega arith) d
 
+-- document 01's form is one of the forms of specs/Form
+by-record : (xs : List ℕ) → Bytes xs → (r : Record) → View xs r → Seen written xs (frontOf xs r)
+by-record xs bs r (whole o) =
+    (piece-back xs bs o, record { kind = o .kind; low = rw (body-length xs o) (o .low); high = rw (body-length xs o) (o .high) })
+by-record xs bs r (bad f) = tt
+
+put-front : (k : ℕ) (b rest : List ℕ) → Fits k b → frontOf (piece k b ++ rest) (recordOf (piece k b ++ rest)) ≡ Taken k b rest
+unfolding piece
+put-front k b rest h =
+    rw (piece-opens k b rest (h .kind) (h .low) (h .high), take-at b rest (length b) refl, drop-at b rest (length b) refl)
+
+opening : Opening written
+opening = record { back = put-front; seen = λ xs bs. by-record xs bs (recordOf xs) (view xs) }
+
+write-by : (t : HashTree) → writeBy written t ≡ write t
+unfolding write
+write-by Empty = refl
+write-by (Fork l r) = rw (write-by l, write-by r)
+write-by (Labeled b t) = rw (write-by t)
+write-by (Leaf b) = refl
+write-by (Pruned b) = refl
+
+grow-by : (p : List ℕ → Parsed) (xs : List ℕ) (r : Record) → growBy p (frontOf xs r) ≡ grow p xs r
+grow-by p xs (Whole k n) = refl
+grow-by p xs Malformed = refl
+
+parse-by : (d : ℕ) (xs : List ℕ) → parseBy written d xs ≡ parse d xs
+unfolding parse parseBy
+parse-by zero xs = refl
+parse-by (suc d) xs =
+    ap (λ (p : List ℕ → Parsed). growBy p (frontOf xs (recordOf xs))) (fun-ext (λ ys. parse-by d ys)) ∙ grow-by (parse d) xs (recordOf xs)
+
 -- written, and then parsed
 pub parse-write : (d : ℕ) (t : HashTree) → Lawful d t → (rest : List ℕ) → parse d (write t ++ rest) ≡ Got t rest
-unfolding write
-parse-write zero t h rest = absurd (omega (arith, h .1, depth-pos t))
-parse-write (suc d) Empty h rest = parse-empty d rest
-parse-write (suc d) (Fork l r) h rest =
-    rw (append-assoc (piece 1 []) (write l ++ write r) rest, append-assoc (write l) (write r) rest, parse-fork d (write l ++ (write r ++ rest)), parse-write d l (lawful-left d l r h) (write r ++ rest), parse-write d r (lawful-right d l r h) rest)
-parse-write (suc d) (Labeled b t) h rest =
-    rw (append-assoc (piece 2 b) (write t) rest, parse-labeled d b (write t ++ rest) (h .0 .0), parse-write d t (lawful-below d b t h) rest)
-parse-write (suc d) (Leaf b) h rest = parse-leaf d b rest (h .0)
-parse-write (suc d) (Pruned b) h rest = parse-pruned d b rest (h .0)
+parse-write d t h rest =
+    sym (parse-by d (write t ++ rest)) ∙ ap (λ (w : List ℕ). parseBy written d (w ++ rest)) (sym (write-by t)) ∙ written-parsed written opening d t h rest
 
 -- what a parse says of the bytes, with no equation to take apart: the bytes are those of the tree and the rest, and the tree is lawful
 abbrev pub Read : ℕ → List ℕ → Parsed → Type 0
 Read d xs (Got t rest) = (xs ≡ write t ++ rest) × Lawful d t
 Read d xs Bad = Unit {0}
 
-pub bytes-rest : (a b : List ℕ) → Bytes (a ++ b) → Bytes b
-bytes-rest a b h i = rw getD-append-add at (h (length a + i))
-
-pub bytes-drop : (n : ℕ) (xs : List ℕ) → Bytes xs → Bytes (drop n xs)
-bytes-drop n xs h i = rw getD-drop (h (n + i))
-
-module _ (d : ℕ) (p : List ℕ → Parsed) (hp : (ys : List ℕ) → Bytes ys → Read d ys (p ys)) (xs : List ℕ) where
-  forked-read : (l : HashTree) (r₁ : List ℕ) → xs ≡ piece 1 [] ++ (write l ++ r₁) → Lawful d l → (q : Parsed) → Read d r₁ q → Read (suc d) xs (forked l q)
-  unfolding write
-  forked-read l r₁ e hl (Got r rest) h = (rw (e, h .0) (simp append-assoc), lawful-fork d l r hl (h .1))
-  forked-read l r₁ e hl Bad h = tt
-
-  fork-read : (r₀ : List ℕ) → Bytes r₀ → xs ≡ piece 1 [] ++ r₀ → (q : Parsed) → Read d r₀ q → Read (suc d) xs (fork p q)
-  fork-read r₀ bs e (Got l r₁) h = forked-read l r₁ (rw (h .0) at e) (h .1) (p r₁) (hp r₁ (bytes-rest (write l) r₁ (rw (h .0) at bs)))
-  fork-read r₀ bs e Bad h = tt
-
-  labeled-read : (b r₀ : List ℕ) → length b ≤ maxLabel → xs ≡ piece 2 b ++ r₀ → (q : Parsed) → Read d r₀ q → Read (suc d) xs (labeled b q)
-  unfolding write
-  labeled-read b r₀ n e (Got t rest) h = (rw (e, h .0) (simp append-assoc), lawful-labeled d b t n (h .1))
-  labeled-read b r₀ n e Bad h = tt
-
-  by-kind-read : (k : ℕ) (b r₀ : List ℕ) → k < 5 → least k ≤ length b → length b ≤ most k → Bytes r₀ → xs ≡ piece k b ++ r₀ → Read (suc d) xs (byKind p k b r₀)
-  unfolding write least most
-  by-kind-read zero [] r₀ kind low high bs e = (e, (tt, omega arith))
-  by-kind-read zero (x ∷ b) r₀ kind low high bs e = absurd (not-suc-le-zero high)
-  by-kind-read (suc zero) [] r₀ kind low high bs e = fork-read r₀ bs e (p r₀) (hp r₀ bs)
-  by-kind-read (suc zero) (x ∷ b) r₀ kind low high bs e = absurd (not-suc-le-zero high)
-  by-kind-read (suc (suc zero)) b r₀ kind low high bs e = labeled-read b r₀ high e (p r₀) (hp r₀ bs)
-  by-kind-read (suc (suc (suc zero))) b r₀ kind low high bs e = (e, (high, omega arith))
-  by-kind-read (suc (suc (suc (suc zero)))) b r₀ kind low high bs e = (e, (omega arith, omega arith))
-  by-kind-read (suc (suc (suc (suc (suc n))))) b r₀ kind low high bs e = absurd (omega arith)
-
-  grow-read : Bytes xs → (r : Record) → View xs r → Read (suc d) xs (grow p xs r)
-  grow-read bs r (whole o) = by-kind-read (kindOf xs) (take (lenOf xs) (drop 2 xs)) (drop (lenOf xs) (drop 2 xs)) (o .kind) (rw (body-length xs o) (o .low)) (rw (body-length xs o) (o .high)) (bytes-drop (lenOf xs) (drop 2 xs) (bytes-drop 2 xs bs)) (piece-back xs bs o)
-  grow-read bs r (bad f) = tt
+read-by : (d : ℕ) (xs : List ℕ) (z : Parsed) → ReadBy written d xs z → Read d xs z
+read-by d xs (Got t rest) h = (h .0 ∙ ap (λ (w : List ℕ). w ++ rest) (write-by t), h .1)
+read-by d xs Bad h = tt
 
 -- parsed, and then written
 pub read : (d : ℕ) (xs : List ℕ) → Bytes xs → Read d xs (parse d xs)
-unfolding parse
-read zero xs bs = tt
-read (suc d) xs bs = grow-read d (λ ys. parse d ys) (λ ys h. read d ys h) xs bs (recordOf xs) (view xs)
+read d xs bs = read-by d xs (parse d xs) (subst (λ (z : Parsed). ReadBy written d xs z) (parse-by d xs) (parsed-written written opening d xs bs))
 
 -- what parses is what was written: the two halves with equations
 pub write-parse : (d : ℕ) (xs : List ℕ) (t : HashTree) (rest : List ℕ) → Bytes xs → parse d xs ≡ Got t rest → (xs ≡ write t ++ rest) × Lawful d t
@@ -144,16 +113,11 @@ write-parse d xs t rest bs e = rw e at (read d xs bs)
 
 -- no written form is the front of another
 pub prefix-free : (t u : HashTree) (x y : List ℕ) → Lengths t → Lengths u → write t ++ x ≡ write u ++ y → (t ≡ u) × (x ≡ y)
-prefix-free t u x y ht hu e =
-    let d = max (depth t) (depth u) in
-    let p : parse d (write t ++ x) ≡ Got t x = parse-write d t (ht, le-max-left (depth t) (depth u)) x in
-    let q : parse d (write u ++ y) ≡ Got u y = parse-write d u (hu, le-max-right (depth t) (depth u)) y in
-    let z : Got t x ≡ Got u y = cc in
-    (cc, cc)
+prefix-free t u x y ht hu e = prefix-free-by written opening t u x y ht hu (rw (write-by t, write-by u) e)
 
 -- a written form is that of one tree
 pub unique : (t u : HashTree) → Lengths t → Lengths u → write t ≡ write u → t ≡ u
-unique t u ht hu e = prefix-free t u [] [] ht hu (ap (λ (w : List ℕ). w ++ []) e) .0
+unique t u ht hu e = unique-by written opening t u ht hu (rw (write-by t, write-by u) e)
 
 -- where nothing parses, no lawful tree stands
 pub bad-none : (d : ℕ) (xs : List ℕ) → parse d xs ≡ Bad → (t : HashTree) (rest : List ℕ) → Lawful d t → xs ≡ write t ++ rest → ⊥

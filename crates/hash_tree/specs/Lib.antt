@@ -3,6 +3,7 @@ pub mod HashTree
 pub mod Written
 pub mod Record
 pub mod Parse
+pub mod Form
 pub mod Whole
 pub mod Steps
 pub mod Deep
