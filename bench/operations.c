@@ -3,38 +3,43 @@
 
 enum { TURNS = 15, OURS = 0, RUST = 1, SAME = 2, INSERT = 0, GET = 1, MODIFY = 2, DELETE = 3 };
 static const char *called[] = {"insert", "get", "modify", "delete"};
-static u8 store[8 + 150 * MOST], keys[48 * MOST], values[64 * MOST], others[64 * MOST], asked[48 * ROWS], leaving[48 * MOST];
+static u8 store[8 + 150 * MOST], keys[ROW * MOST], values[ROW * MOST], others[ROW * MOST], asked[ROW * ROWS], leaving[ROW * MOST];
 static int n, k, v;
 static double best[3][4];
 static size_t digests[4], blocks[4];
 
+static size_t get(int rows) { return timed_read(DO_GET, store, store_length(n), asked, sizeof asked, asked, sizeof asked, k, rows, 0, 0); }
+
+static void change(int what, const u8 *table, const u8 *given, const char *name) {
+  must(timed_change(what, store, store_length(n), table, sizeof keys, k, given, sizeof values, v, n), name);
+}
+
 // What a judging of the store costs, which each of our calls begins with.
 static double judging(void) {
   double t = cpu();
-  must(timed_get(store, store_length(n), keys, sizeof keys, k, 0) == 0, "get");
+  must(get(0) == 0, "get");
   return cpu() - t;
 }
 
 static void ours(double *spent, const void *map) {
-  size_t length = store_length(n);
   u8 root[32];
   double t, judged;
   fresh(store, n);
   judged = judging(), t = cpu();
-  must(timed_insert(store, length, keys, sizeof keys, k, values, sizeof values, v, n), "insert");
+  change(DO_INSERT, keys, values, "insert");
   spent[INSERT] += cpu() - t - judged;
   judged = judging(), t = cpu();
-  must(timed_get(store, length, asked, sizeof asked, k, ROWS) == ROWS, "get");
+  must(get(ROWS) == ROWS, "get");
   spent[GET] += (cpu() - t - judged) * n / ROWS;
   judged = judging(), t = cpu();
-  must(timed_modify(store, length, keys, sizeof keys, k, others, sizeof others, v, n), "modify");
+  change(DO_MODIFY, keys, others, "modify");
   spent[MODIFY] += cpu() - t - judged;
   rust_root(map, root);
   must(!memcmp(root, root_of(store), 32), "the roots differ");
   judged = judging(), t = cpu();
-  must(timed_delete(store, length, leaving, sizeof leaving, k, n), "delete");
+  change(DO_DELETE, leaving, values, "delete");
   spent[DELETE] += cpu() - t - judged;
-  must(timed_get(store, length, asked, sizeof asked, k, ROWS) == 0, "keys are left");
+  must(get(ROWS) == 0, "keys are left");
 }
 
 static void rust(double *spent) {
@@ -64,10 +69,10 @@ int main(void) {
     for (int z = 0; z < 3; z++) {
       k = lengths[l][0], v = lengths[l][1], n = sizes[z];
       shuffle(order, n);
-      for (int i = 0; i < n; i++) name(keys + 48 * i, order[i], k), describe(values + 64 * i, v), describe(others + 64 * i, v);
-      for (int i = 0; i < ROWS; i++) name(asked + 48 * i, rnd() % n, k);
+      for (int i = 0; i < n; i++) name(keys + ROW * i, order[i], k), describe(values + ROW * i, v), describe(others + ROW * i, v);
+      for (int i = 0; i < ROWS; i++) name(asked + ROW * i, rnd() % n, k);
       shuffle(order, n);
-      for (int i = 0; i < n; i++) name(leaving + 48 * i, order[i], k);
+      for (int i = 0; i < n; i++) name(leaving + ROW * i, order[i], k);
       void *map = rust_new();
       rust_insert(map, keys, k, others, v, n);
       for (int s = 0; s < 3; s++)

@@ -6,7 +6,7 @@
 # 24 bytes with descriptors of 16, and then the longest, 48 and 64. Both sides take the same tables of rows.
 # Ours: crate timed, which judges the store once in a call; that judging is measured by itself and taken off.
 # The Rust: its hash_tree is the oracle's stand-in, at opt-level 3 with no debug assertions; once with the oracle's own plain Rust
-# SHA-256, once with ours in its place, so that what is left of a difference is not the hash. Digests and blocks of SHA-256 for an
-# operation are counted in the Rust; ours computes the same ones.
+# SHA-256, once with ours in its place, so that what is left of a difference is neither the hash nor its compiler. Digests and blocks of
+# SHA-256 for an operation are counted in the Rust. Ours makes as many for modify, and fewer for insert and delete: each digest once.
 # It needs gcc and rustc, and is no part of the gate.
 exec "$(dirname "$0")/beside-rust.sh" bench/operations.c

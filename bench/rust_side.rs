@@ -82,14 +82,14 @@ pub unsafe extern "C" fn rust_root(map: *const Map, out: *mut u8) {
 
 #[no_mangle]
 pub unsafe extern "C" fn rust_insert(map: *mut Map, keys: *const u8, k: usize, values: *const u8, v: usize, n: usize) {
-    for (key, value) in rows(keys, 48, k, n).zip(rows(values, 64, v, n)) {
+    for (key, value) in rows(keys, 64, k, n).zip(rows(values, 64, v, n)) {
         (*map).insert(key.to_vec(), value.to_vec());
     }
 }
 
 #[no_mangle]
 pub unsafe extern "C" fn rust_modify(map: *mut Map, keys: *const u8, k: usize, values: *const u8, v: usize, n: usize) {
-    for (key, value) in rows(keys, 48, k, n).zip(rows(values, 64, v, n)) {
+    for (key, value) in rows(keys, 64, k, n).zip(rows(values, 64, v, n)) {
         (*map).modify(key, |old| {
             old.clear();
             old.extend_from_slice(value);
@@ -99,14 +99,14 @@ pub unsafe extern "C" fn rust_modify(map: *mut Map, keys: *const u8, k: usize, v
 
 #[no_mangle]
 pub unsafe extern "C" fn rust_delete(map: *mut Map, keys: *const u8, k: usize, n: usize) {
-    for key in rows(keys, 48, k, n) {
+    for key in rows(keys, 64, k, n) {
         (*map).delete(key);
     }
 }
 
 #[no_mangle]
 pub unsafe extern "C" fn rust_get(map: *const Map, keys: *const u8, k: usize, n: usize) -> usize {
-    rows(keys, 48, k, n).filter(|key| (*map).get(key).is_some()).count()
+    rows(keys, 64, k, n).filter(|key| (*map).get(key).is_some()).count()
 }
 
 // ---- witnesses: the HashTree is built and freed, and written where `write` says so; the length written last
@@ -136,7 +136,7 @@ pub unsafe extern "C" fn rust_as_hash_tree(map: *const Map, n: usize, write: boo
 #[no_mangle]
 pub unsafe extern "C" fn rust_witness(map: *const Map, keys: *const u8, k: usize, n: usize, write: bool, out: *mut u8, room: usize) -> usize {
     let mut made = Vec::with_capacity(room);
-    for key in rows(keys, 48, k, n) {
+    for key in rows(keys, 64, k, n) {
         taken((*map).witness(key), write, &mut made);
     }
     handed(made, out, room)
@@ -147,7 +147,7 @@ pub unsafe extern "C" fn rust_range(
     map: *const Map, values: bool, firsts: *const u8, lasts: *const u8, k: usize, n: usize, write: bool, out: *mut u8, room: usize,
 ) -> usize {
     let mut made = Vec::with_capacity(room);
-    for (first, last) in rows(firsts, 48, k, n).zip(rows(lasts, 48, k, n)) {
+    for (first, last) in rows(firsts, 64, k, n).zip(rows(lasts, 64, k, n)) {
         let tree = if values { (*map).value_range(first, last) } else { (*map).key_range(first, last) };
         taken(tree, write, &mut made);
     }

@@ -7,15 +7,9 @@
 typedef uint8_t u8;
 typedef _Bool yes;
 
-// crate timed; each judges the store once
-extern yes timed_insert(u8 *, size_t, const u8 *, size_t, size_t, const u8 *, size_t, size_t, size_t);
-extern yes timed_modify(u8 *, size_t, const u8 *, size_t, size_t, const u8 *, size_t, size_t, size_t);
-extern yes timed_delete(u8 *, size_t, const u8 *, size_t, size_t, size_t);
-extern size_t timed_get(const u8 *, size_t, const u8 *, size_t, size_t, size_t);
-extern yes timed_as_hash_tree(const u8 *, size_t, size_t, u8 *, size_t);
-extern yes timed_witness(const u8 *, size_t, const u8 *, size_t, size_t, size_t, u8 *, size_t);
-extern yes timed_key_range(const u8 *, size_t, const u8 *, size_t, const u8 *, size_t, size_t, size_t, u8 *, size_t);
-extern yes timed_value_range(const u8 *, size_t, const u8 *, size_t, const u8 *, size_t, size_t, size_t, u8 *, size_t);
+// crate timed; the first two judge the store once
+extern yes timed_change(size_t, u8 *, size_t, const u8 *, size_t, size_t, const u8 *, size_t, size_t, size_t);
+extern size_t timed_read(size_t, const u8 *, size_t, const u8 *, size_t, const u8 *, size_t, size_t, size_t, u8 *, size_t);
 extern size_t timed_rebuild(const u8 *, size_t, u8 *);
 
 // rust_side.rs
@@ -35,7 +29,9 @@ extern yes rust_rebuild(const u8 *, size_t, u8 *);
 extern void *rust_tree(const u8 *, size_t);
 extern void rust_digest(const void *, u8 *);
 
-enum { MOST = 1024, ROWS = 4096 };
+enum { MOST = 1024, ROWS = 4096, ROW = 64 };
+enum { DO_INSERT, DO_MODIFY, DO_DELETE };
+enum { DO_GET, DO_TREE, DO_WITNESS, DO_KEYS, DO_VALUES };
 
 static void must(int ok, const char *what) {
   if (!ok) printf("%s\n", what), exit(1);
@@ -65,12 +61,12 @@ static void name(u8 *row, int i, int length) {
   char text[64];
   snprintf(text, sizeof text, "%suart%02d.chan%02d.field%05d", length == 48 ? "chips/one/revision-b0/r/" : "", i % 16, i / 16 % 8, i);
   must((int)strlen(text) == length, "a name has another length");
-  memset(row, 0, 48);
+  memset(row, 0, ROW);
   memcpy(row, text, length);
 }
 
 static void describe(u8 *row, int length) {
-  memset(row, 0, 64);
+  memset(row, 0, ROW);
   for (int j = 0; j < length; j++) row[j] = rnd();
 }
 

@@ -6,35 +6,39 @@ enum { OURS, BUILT, WRITTEN, SAME_BUILT, SAME_WRITTEN, SIDES };
 enum { TREE, WITNESS, KEYS, VALUES, REBUILD, CALLS };
 static const char *called[] = {"as_hash_tree", "witness of one key", "key_range of 32", "value_range of 32", "rebuild of as_hash_tree"};
 static const int many[] = {TREES, MOST, RANGES, RANGES, TREES};
-static u8 store[8 + 150 * MOST], keys[48 * MOST], values[64 * MOST], sorted[48 * MOST], out[OUTPUT], other[OUTPUT], whole[OUTPUT];
+static u8 store[8 + 150 * MOST], keys[ROW * MOST], values[ROW * MOST], sorted[ROW * MOST], out[OUTPUT], other[OUTPUT], whole[OUTPUT];
 static const size_t len = sizeof store, table = sizeof keys;
 static int k, v;
 static size_t size[CALLS], whole_size, digests[CALLS], blocks[CALLS];
 static void *map, *tree;
 static double best[SIDES][CALLS];
 
-static int order(const void *a, const void *b) { return memcmp(a, b, 48); }
+static int order(const void *a, const void *b) { return memcmp(a, b, ROW); }
 
 static double judging(void) {
   double t = cpu();
-  must(timed_get(store, len, keys, table, k, 0) == 0, "get");
+  must(timed_read(DO_GET, store, len, keys, table, keys, table, k, 0, out, OUTPUT) == 0, "get");
   return cpu() - t;
 }
 
+static void reads(int what, const u8 *lasts, int rows, int call) {
+  must(timed_read(what, store, len, sorted, table, lasts, ROW * rows, k, rows, out, OUTPUT) == (size_t)rows, called[call]);
+}
+
 static void ours(int call) {
-  const u8 *lasts = sorted + 48 * (RANGE - 1);
+  const u8 *lasts = sorted + ROW * (RANGE - 1);
   u8 digest[32];
-  if (call == TREE) must(timed_as_hash_tree(store, len, TREES, out, OUTPUT), called[call]);
-  if (call == WITNESS) must(timed_witness(store, len, sorted, table, k, MOST, out, OUTPUT), called[call]);
-  if (call == KEYS) must(timed_key_range(store, len, sorted, table, lasts, 48 * RANGES, k, RANGES, out, OUTPUT), called[call]);
-  if (call == VALUES) must(timed_value_range(store, len, sorted, table, lasts, 48 * RANGES, k, RANGES, out, OUTPUT), called[call]);
+  if (call == TREE) reads(DO_TREE, sorted, TREES, call);
+  if (call == WITNESS) reads(DO_WITNESS, sorted, MOST, call);
+  if (call == KEYS) reads(DO_KEYS, lasts, RANGES, call);
+  if (call == VALUES) reads(DO_VALUES, lasts, RANGES, call);
   if (call == REBUILD)
     for (int i = 0; i < TREES; i++) must(timed_rebuild(whole, whole_size, digest) == 0 && !memcmp(digest, root_of(store), 32), called[call]);
 }
 
 // Builds and frees the tree, and writes it where `write` says so. A rebuild that is not written: the digest of a tree that stands.
 static void rust(int call, yes write) {
-  const u8 *lasts = sorted + 48 * (RANGE - 1);
+  const u8 *lasts = sorted + ROW * (RANGE - 1);
   u8 digest[32];
   if (call == TREE) size[call] = rust_as_hash_tree(map, TREES, write, other, OUTPUT);
   if (call == WITNESS) size[call] = rust_witness(map, sorted, k, MOST, write, other, OUTPUT);
@@ -64,11 +68,11 @@ int main(void) {
   for (int l = 0; l < 2; l++) {
     k = lengths[l][0], v = lengths[l][1];
     shuffle(way, MOST);
-    for (int i = 0; i < MOST; i++) name(keys + 48 * i, way[i], k), describe(values + 64 * i, v);
+    for (int i = 0; i < MOST; i++) name(keys + ROW * i, way[i], k), describe(values + ROW * i, v);
     memcpy(sorted, keys, table);
-    qsort(sorted, MOST, 48, order);
+    qsort(sorted, MOST, ROW, order);
     fresh(store, MOST);
-    must(timed_insert(store, len, keys, table, k, values, sizeof values, v, MOST), "insert");
+    must(timed_change(DO_INSERT, store, len, keys, table, k, values, sizeof values, v, MOST), "insert");
     map = rust_new();
     rust_insert(map, keys, k, values, v, MOST);
     whole_size = rust_as_hash_tree(map, 1, 1, whole, OUTPUT);

@@ -1,5 +1,5 @@
 // Hash trees: the four digests, and the digest of a tree rebuilt from its written form.
-use sha256::Sha256;
+use sha256::joined;
 ghost use mathlib.Core.Path.{_≡_};
 ghost use Prim.Native.Nat.{_+_, _-_, _≤_, _<_};
 ghost use lib.ListN.{length, take, drop};
@@ -16,32 +16,28 @@ ghost use Rattle.hash_tree.specs.Whole.{rebuilt, refused};
 pub fn empty_hash() -> [u8; 32]
     ensures { λ r. ⌜ r ≡ emptyHash ⌝ }
 {
-    let s = Sha256::new().update(b"\x11ic-hashtree-empty");
-    s.finish()
+    joined(b"\x11ic-hashtree-empty", b"", b"")
 }
 
 // The digest of Fork, from the digests of its children.
 pub fn fork_hash(left: &[u8], right: &[u8]) -> [u8; 32]
     ensures { λ r. ⌜ r ≡ forkHash (now (left .entry)) (now (right .entry)) ⌝ }
 {
-    let s = Sha256::new().update(b"\x10ic-hashtree-fork");
-    s.update(left).update(right).finish()
+    joined(b"\x10ic-hashtree-fork", left, right)
 }
 
 // The digest of Labeled, from its label and the digest of its child.
 pub fn labeled_hash(label: &[u8], child: &[u8]) -> [u8; 32]
     ensures { λ r. ⌜ r ≡ labeledHash (now (label .entry)) (now (child .entry)) ⌝ }
 {
-    let s = Sha256::new().update(b"\x13ic-hashtree-labeled");
-    s.update(label).update(child).finish()
+    joined(b"\x13ic-hashtree-labeled", label, child)
 }
 
 // The digest of Leaf.
 pub fn leaf_hash(value: &[u8]) -> [u8; 32]
     ensures { λ r. ⌜ r ≡ leafHash (now (value .entry)) ⌝ }
 {
-    let s = Sha256::new().update(b"\x10ic-hashtree-leaf");
-    s.update(value).finish()
+    joined(b"\x10ic-hashtree-leaf", value, b"")
 }
 
 // The deepest nesting that is accepted, the outermost record counted.

@@ -9,6 +9,7 @@ use Prim.Native.Nat.{ℕ}
 use lib.Dec.{ltb, eqb}
 use lib.ListN.{length}
 use Rattle.key_order.specs.Order.{Key, cmp, pick}
+use Rattle.answers.specs.Numbers.{maxKey, maxValue, maxCapacity}
 use Rattle.slots.specs.Layout.{storeLength}
 use Rattle.hash_tree.specs.HashTree.{HashTree}
 use Rattle.llrb.specs.Tree.{Value, Entry, Tree, entries, size, get}
@@ -28,10 +29,10 @@ refuse true r o = refused r
 refuse false r o = o
 
 abbrev pub longKey : Key → Bool
-longKey key = ltb 48 (length key)
+longKey key = ltb maxKey (length key)
 
 abbrev pub longValue : Value → Bool
-longValue value = ltb 64 (length value)
+longValue value = ltb maxValue (length value)
 
 -- first is above last
 abbrev pub reversed : (first last : Key) → Bool
@@ -100,7 +101,7 @@ ofRange make first last m =
 unfoldable pub createAnswer : (capacity : ℕ) → List ℕ → Changed
 createAnswer capacity s =
     changed s
-    (refuse (eqb capacity 0 || (ltb 1024 capacity || not (eqb (length s) (storeLength capacity)))) BadCapacity
+    (refuse (eqb capacity 0 || (ltb maxCapacity capacity || not (eqb (length s) (storeLength capacity)))) BadCapacity
     (done (fresh capacity)))
 
 unfoldable pub isEmptyAnswer : List ℕ → Told
@@ -134,18 +135,26 @@ deleteAnswer key s = changed s (onSound s (deleteIn key) (refused NotSound))
 unfoldable pub witnessed : (Model → Outcome HashTree) → (s out : List ℕ) → Written
 witnessed make s out = written out (fitting out (onSound s make (refused NotSound)))
 
+-- What each of the six shows, as a rule for each entry that a reader can believe, stands in witness_trees/specs/Rules (and Shown, `shown`); that
+-- the Rust's functions named here show just that is proved in witness_trees/proofs/Calls.
+
+-- every entry with its value (`as-hash-tree-is`)
 unfoldable pub asHashTreeAnswer : (s out : List ℕ) → Written
 asHashTreeAnswer = witnessed (λ m. done (asHashTree (m .tree)))
 
+-- every key, values cut (`keys-is`)
 unfoldable pub keysAnswer : (s out : List ℕ) → Written
 keysAnswer = witnessed (λ m. done (keys (m .tree)))
 
+-- the key with its value, or its neighbours: `rangeRule` from the key to itself (`witness-is`)
 unfoldable pub witnessAnswer : Key → (s out : List ℕ) → Written
 witnessAnswer key = witnessed (ofKey witness key)
 
+-- `prefixRule` (`keys-with-prefix-is`)
 unfoldable pub keysWithPrefixAnswer : (prefix : Key) → (s out : List ℕ) → Written
 keysWithPrefixAnswer prefix = witnessed (ofKey keysWithPrefix prefix)
 
+-- `rangeRule` with keys alone (`key-range-is`), and with values (`value-range-is`)
 unfoldable pub keyRangeAnswer : (first last : Key) → (s out : List ℕ) → Written
 keyRangeAnswer first last = witnessed (ofRange keyRange first last)
 

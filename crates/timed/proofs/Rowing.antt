@@ -1,16 +1,15 @@
 -- A call for one more row.
--- Assumes nothing.
 use mathlib.Core.Path.{_≡_, refl, ap}
 use mathlib.Core.Bool.{true, false}
 use mathlib.Core.List.{List}
-use Prim.Native.Nat.{ℕ, _+_, _-_, _*_, _≤_}
+use Prim.Native.Nat.{ℕ, zero, suc, _+_, _-_, _*_, _≤_}
 use native.Mathlib.Numerals.{add-one}
 use native.Mathlib.Omega.{arith}
 use lib.ListN.{length, length-take, take, drop}
-use Rattle.rb_tree.specs.declared.Inserted.the-variants as insert
-use Rattle.rb_tree.specs.declared.Changed.the-variants as change
-use Rattle.store.specs.Calls.{getAnswer, insertAnswer, modifyAnswer, deleteAnswer, asHashTreeAnswer, witnessAnswer, keyRangeAnswer, valueRangeAnswer}
-use Rattle.timed.specs.Rows.{Exactly, Ran, insertRows, modifyRows, deleteRows, one, foundRows, trees, witnessRows, keyRangeRows, valueRangeRows}
+use Rattle.key_order.specs.Order.{Key}
+use Rattle.llrb.specs.Tree.{Value}
+use Rattle.store.specs.Calls.{deleteAnswer, keyRangeAnswer, valueRangeAnswer}
+use Rattle.timed.specs.Rows.{Exactly, Ran, Told, changed, changedRows, counted, countedRows, output, outputRows}
 
 -- ---- the part of a table that a slice takes
 
@@ -29,59 +28,55 @@ refused n = (λ p. absurd (n p), λ _. (refl, refl))
 pub ran : {P : Type 0} → P → {s after made : List ℕ} → after ≡ made → Ran P true s after made
 ran p e = (λ _. (refl, e), λ n. absurd (n p))
 
-pub none : {P : Type 0} → (P → ⊥) → {n : ℕ} → Exactly P (0 ≡ n) (_≡_ {A = ℕ} 0 0)
-none n = (λ p. absurd (n p), λ _. refl)
+pub untold : {P : Type 0} → (P → ⊥) → {n : ℕ} {s made : List ℕ} → Told P 0 n s s made
+untold n = (λ p. absurd (n p), λ _. (refl, refl))
 
-pub all : {P : Type 0} → P → {n m : ℕ} → n ≡ m → Exactly P (n ≡ m) (n ≡ 0)
-all p e = (λ _. e, λ n. absurd (n p))
+pub told : {P : Type 0} → P → {r n : ℕ} {s after made : List ℕ} → r ≡ n → after ≡ made → Told P r n s after made
+told p d e = (λ _. (d, e), λ n. absurd (n p))
+
+-- ---- the operation that a number names
+
+pub by-delete : (op : ℕ) (k : Key) (v : Value) (s : List ℕ) → (op ≡ 0 → ⊥) → (op ≡ 1 → ⊥) → deleteAnswer k s .store ≡ changed op k v s
+by-delete zero k v s n m = absurd (n refl)
+by-delete (suc zero) k v s n m = absurd (m refl)
+by-delete (suc (suc op)) k v s n m = refl
+
+pub by-one : (op : ℕ) (k : Key) (s : List ℕ) → (op ≡ 0 → ⊥) → 1 ≡ counted op k s
+by-one zero k s n = absurd (n refl)
+by-one (suc op) k s n = refl
+
+pub by-values : (op : ℕ) (k l : Key) (s out : List ℕ) → (op ≡ 0 → ⊥) → (op ≡ 1 → ⊥) → (op ≡ 2 → ⊥) → (op ≡ 3 → ⊥) → valueRangeAnswer k l s out .output ≡ output op k l s out
+by-values zero k l s out a b c d = absurd (a refl)
+by-values (suc zero) k l s out a b c d = absurd (b refl)
+by-values (suc (suc zero)) k l s out a b c d = absurd (c refl)
+by-values (suc (suc (suc zero))) k l s out a b c d = absurd (d refl)
+by-values (suc (suc (suc (suc op)))) k l s out a b c d = refl
+
+-- either range, where both leave the output
+pub by-range : (op : ℕ) (k l : Key) (s out : List ℕ) → (op ≡ 0 → ⊥) → (op ≡ 1 → ⊥) → (op ≡ 2 → ⊥) → out ≡ keyRangeAnswer k l s out .output → out ≡ valueRangeAnswer k l s out .output
+    → out ≡ output op k l s out
+by-range zero k l s out a b c x y = absurd (a refl)
+by-range (suc zero) k l s out a b c x y = absurd (b refl)
+by-range (suc (suc zero)) k l s out a b c x y = absurd (c refl)
+by-range (suc (suc (suc zero))) k l s out a b c x y = x
+by-range (suc (suc (suc (suc op)))) k l s out a b c x y = y
 
 -- ---- a call for one more row
 
-module _ (keys : List ℕ) (k : ℕ) (values : List ℕ) (v i : ℕ) (s₀ : List ℕ) {s s′ : List ℕ} where
-  pub next-insertRows : s ≡ insertRows keys k values v i s₀
-      → s′ ≡ insertAnswer (take ((48 * i + k) - 48 * i) (drop (48 * i) keys)) (take ((64 * i + v) - 64 * i) (drop (64 * i) values)) s .store
-      → s′ ≡ insertRows keys k values v (i + 1) s₀
-  unfolding insertRows
-  next-insertRows e f = rw (add-one i, f, e, part (48 * i) k keys, part (64 * i) v values)
+module _ (op : ℕ) (keys : List ℕ) (k : ℕ) (values : List ℕ) (v i : ℕ) where
+  pub next-change : (s₀ : List ℕ) {s s′ : List ℕ} → s ≡ changedRows op keys k values v i s₀
+      → s′ ≡ changed op (take ((64 * i + k) - 64 * i) (drop (64 * i) keys)) (take ((64 * i + v) - 64 * i) (drop (64 * i) values)) s
+      → s′ ≡ changedRows op keys k values v (i + 1) s₀
+  unfolding changedRows
+  next-change s₀ e f = rw (add-one i, f, e, part (64 * i) k keys, part (64 * i) v values)
 
-  pub next-modifyRows : s ≡ modifyRows keys k values v i s₀
-      → s′ ≡ modifyAnswer (take ((48 * i + k) - 48 * i) (drop (48 * i) keys)) (take ((64 * i + v) - 64 * i) (drop (64 * i) values)) s .store
-      → s′ ≡ modifyRows keys k values v (i + 1) s₀
-  unfolding modifyRows
-  next-modifyRows e f = rw (add-one i, f, e, part (48 * i) k keys, part (64 * i) v values)
+module _ (op : ℕ) (s firsts lasts : List ℕ) (k i : ℕ) where
+  pub next-counted : {n r : ℕ} → n ≡ countedRows op s firsts k i → r ≡ counted op (take ((64 * i + k) - 64 * i) (drop (64 * i) firsts)) s → n + r ≡ countedRows op s firsts k (i + 1)
+  unfolding countedRows
+  next-counted e f = rw (add-one i, f, e, part (64 * i) k firsts)
 
-module _ (keys : List ℕ) (k i : ℕ) where
-  pub next-deleteRows : (s₀ : List ℕ) {s s′ : List ℕ} → s ≡ deleteRows keys k i s₀
-      → s′ ≡ deleteAnswer (take ((48 * i + k) - 48 * i) (drop (48 * i) keys)) s .store
-      → s′ ≡ deleteRows keys k (i + 1) s₀
-  unfolding deleteRows
-  next-deleteRows s₀ e f = rw (add-one i, f, e, part (48 * i) k keys)
-
-  pub next-foundRows : (s : List ℕ) {n m : ℕ} → n ≡ foundRows s keys k i
-      → m ≡ one (getAnswer (take ((48 * i + k) - 48 * i) (drop (48 * i) keys)) s .number)
-      → n + m ≡ foundRows s keys k (i + 1)
-  unfolding foundRows
-  next-foundRows s e f = rw (add-one i, f, e, part (48 * i) k keys)
-
-  pub next-witnessRows : (s out₀ : List ℕ) {out out′ : List ℕ} → out ≡ witnessRows s keys k i out₀
-      → out′ ≡ witnessAnswer (take ((48 * i + k) - 48 * i) (drop (48 * i) keys)) s out .output
-      → out′ ≡ witnessRows s keys k (i + 1) out₀
-  unfolding witnessRows
-  next-witnessRows s out₀ e f = rw (add-one i, f, e, part (48 * i) k keys)
-
-  module _ (lasts s out₀ : List ℕ) {out out′ : List ℕ} where
-    pub next-keyRangeRows : out ≡ keyRangeRows s keys lasts k i out₀
-        → out′ ≡ keyRangeAnswer (take ((48 * i + k) - 48 * i) (drop (48 * i) keys)) (take ((48 * i + k) - 48 * i) (drop (48 * i) lasts)) s out .output
-        → out′ ≡ keyRangeRows s keys lasts k (i + 1) out₀
-    unfolding keyRangeRows
-    next-keyRangeRows e f = rw (add-one i, f, e, part (48 * i) k keys, part (48 * i) k lasts)
-
-    pub next-valueRangeRows : out ≡ valueRangeRows s keys lasts k i out₀
-        → out′ ≡ valueRangeAnswer (take ((48 * i + k) - 48 * i) (drop (48 * i) keys)) (take ((48 * i + k) - 48 * i) (drop (48 * i) lasts)) s out .output
-        → out′ ≡ valueRangeRows s keys lasts k (i + 1) out₀
-    unfolding valueRangeRows
-    next-valueRangeRows e f = rw (add-one i, f, e, part (48 * i) k keys, part (48 * i) k lasts)
-
-pub next-trees : (s : List ℕ) (i : ℕ) (out₀ : List ℕ) {out out′ : List ℕ} → out ≡ trees s i out₀ → out′ ≡ asHashTreeAnswer s out .output → out′ ≡ trees s (i + 1) out₀
-unfolding trees
-next-trees s i out₀ e f = rw (add-one i, f, e)
+  pub next-output : (out₀ : List ℕ) {out out′ : List ℕ} → out ≡ outputRows op s firsts lasts k i out₀
+      → out′ ≡ output op (take ((64 * i + k) - 64 * i) (drop (64 * i) firsts)) (take ((64 * i + k) - 64 * i) (drop (64 * i) lasts)) s out
+      → out′ ≡ outputRows op s firsts lasts k (i + 1) out₀
+  unfolding outputRows
+  next-output out₀ e f = rw (add-one i, f, e, part (64 * i) k firsts, part (64 * i) k lasts)

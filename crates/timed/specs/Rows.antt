@@ -1,5 +1,4 @@
 -- Tables of keys and values, and what a public call for each row in turn leaves or counts.
--- Assumes nothing: these are definitions.
 use mathlib.Core.Path.{_≡_}
 use mathlib.Core.Bool.{Bool, true, false}
 use mathlib.Core.List.{List}
@@ -11,19 +10,13 @@ use Rattle.store.specs.Calls.{getAnswer, insertAnswer, modifyAnswer, deleteAnsw
 
 -- ---- tables
 
-pub record KeyRows (len rows : ℕ) (keys : List ℕ) : Type 0 where
-  pub short : len ≤ 48
-  pub there : 48 * rows ≤ length keys
+-- a table of so many rows of 64 bytes; len bytes of each are used, at most so many
+pub record Rows (most len rows : ℕ) (table : List ℕ) : Type 0 where
+  pub short : len ≤ most
+  pub there : 64 * rows ≤ length table
 
-pub record ValueRows (len rows : ℕ) (values : List ℕ) : Type 0 where
-  pub short : len ≤ 64
-  pub there : 64 * rows ≤ length values
-
-abbrev pub keyRow : (keys : List ℕ) (len i : ℕ) → Key
-keyRow keys len i = take len (drop (48 * i) keys)
-
-abbrev pub valueRow : (values : List ℕ) (len i : ℕ) → Value
-valueRow values len i = take len (drop (64 * i) values)
+abbrev pub row : (table : List ℕ) (len i : ℕ) → List ℕ
+row table len i = take len (drop (64 * i) table)
 
 -- A where P holds, B where it does not
 abbrev pub Exactly : Type 0 → Type 0 → Type 0 → Type 0
@@ -33,44 +26,42 @@ Exactly P A B = (P → A) × ((P → ⊥) → B)
 abbrev pub Ran : Type 0 → Bool → (before after made : List ℕ) → Type 0
 Ran P r before after made = Exactly P ((r ≡ true) × (after ≡ made)) ((r ≡ false) × (after ≡ before))
 
--- ---- the store after a call for each of the first rows
+-- where P holds, the answer is n and the bytes become `made`; else 0, and they stay
+abbrev pub Told : Type 0 → (r n : ℕ) → (before after made : List ℕ) → Type 0
+Told P r n before after made = Exactly P ((r ≡ n) × (after ≡ made)) ((r ≡ 0) × (after ≡ before))
 
-unfoldable pub insertRows : (keys : List ℕ) (k : ℕ) (values : List ℕ) (v : ℕ) → (rows : ℕ) → List ℕ → List ℕ
-insertRows keys k values v zero s = s
-insertRows keys k values v (suc i) s = insertAnswer (keyRow keys k i) (valueRow values v i) (insertRows keys k values v i s) .store
+-- ---- changes: the store after one, and after one for each of the first rows
 
-unfoldable pub modifyRows : (keys : List ℕ) (k : ℕ) (values : List ℕ) (v : ℕ) → (rows : ℕ) → List ℕ → List ℕ
-modifyRows keys k values v zero s = s
-modifyRows keys k values v (suc i) s = modifyAnswer (keyRow keys k i) (valueRow values v i) (modifyRows keys k values v i s) .store
+abbrev pub changed : (op : ℕ) → Key → Value → List ℕ → List ℕ
+changed zero k v s = insertAnswer k v s .store
+changed (suc zero) k v s = modifyAnswer k v s .store
+changed (suc (suc n)) k v s = deleteAnswer k s .store
 
-unfoldable pub deleteRows : (keys : List ℕ) (k : ℕ) → (rows : ℕ) → List ℕ → List ℕ
-deleteRows keys k zero s = s
-deleteRows keys k (suc i) s = deleteAnswer (keyRow keys k i) (deleteRows keys k i s) .store
+unfoldable pub changedRows : (op : ℕ) (keys : List ℕ) (k : ℕ) (values : List ℕ) (v : ℕ) → (rows : ℕ) → List ℕ → List ℕ
+changedRows op keys k values v zero s = s
+changedRows op keys k values v (suc i) s = changed op (row keys k i) (row values v i) (changedRows op keys k values v i s)
 
--- ---- how many of the first rows get finds
+-- ---- readings: what one counts, and the output after it; and so for the first rows
 
 abbrev pub one : (number : ℕ) → ℕ
 one zero = 1
 one (suc n) = 0
 
-unfoldable pub foundRows : (s keys : List ℕ) (k : ℕ) → (rows : ℕ) → ℕ
-foundRows s keys k zero = 0
-foundRows s keys k (suc i) = foundRows s keys k i + one (getAnswer (keyRow keys k i) s .number)
+abbrev pub counted : (op : ℕ) → Key → List ℕ → ℕ
+counted zero k s = one (getAnswer k s .number)
+counted (suc n) k s = 1
 
--- ---- the output after a witness for each of the first rows
+abbrev pub output : (op : ℕ) → (first last : Key) → List ℕ → List ℕ → List ℕ
+output zero k l s out = out
+output (suc zero) k l s out = asHashTreeAnswer s out .output
+output (suc (suc zero)) k l s out = witnessAnswer k s out .output
+output (suc (suc (suc zero))) k l s out = keyRangeAnswer k l s out .output
+output (suc (suc (suc (suc n)))) k l s out = valueRangeAnswer k l s out .output
 
-unfoldable pub trees : (s : List ℕ) → (times : ℕ) → List ℕ → List ℕ
-trees s zero out = out
-trees s (suc i) out = asHashTreeAnswer s (trees s i out) .output
+unfoldable pub countedRows : (op : ℕ) (s firsts : List ℕ) (k : ℕ) → (rows : ℕ) → ℕ
+countedRows op s firsts k zero = 0
+countedRows op s firsts k (suc i) = countedRows op s firsts k i + counted op (row firsts k i) s
 
-unfoldable pub witnessRows : (s keys : List ℕ) (k : ℕ) → (rows : ℕ) → List ℕ → List ℕ
-witnessRows s keys k zero out = out
-witnessRows s keys k (suc i) out = witnessAnswer (keyRow keys k i) s (witnessRows s keys k i out) .output
-
-unfoldable pub keyRangeRows : (s firsts lasts : List ℕ) (k : ℕ) → (rows : ℕ) → List ℕ → List ℕ
-keyRangeRows s firsts lasts k zero out = out
-keyRangeRows s firsts lasts k (suc i) out = keyRangeAnswer (keyRow firsts k i) (keyRow lasts k i) s (keyRangeRows s firsts lasts k i out) .output
-
-unfoldable pub valueRangeRows : (s firsts lasts : List ℕ) (k : ℕ) → (rows : ℕ) → List ℕ → List ℕ
-valueRangeRows s firsts lasts k zero out = out
-valueRangeRows s firsts lasts k (suc i) out = valueRangeAnswer (keyRow firsts k i) (keyRow lasts k i) s (valueRangeRows s firsts lasts k i out) .output
+unfoldable pub outputRows : (op : ℕ) (s firsts lasts : List ℕ) (k : ℕ) → (rows : ℕ) → List ℕ → List ℕ
+outputRows op s firsts lasts k zero out = out
+outputRows op s firsts lasts k (suc i) out = output op (row firsts k i) (row lasts k i) s (outputRows op s firsts lasts k i out)

@@ -1,41 +1,24 @@
-use mathlib.Core.List.{[]}
-use Rattle.hash_tree.specs.HashTree.{leafHash}
+use mathlib.Core.List.{List, _++_, append-nil}
+use mathlib.Core.Path.{ap, _∙_}
+use Prim.Native.Nat.{ℕ}
+use Rattle.sha256.specs.Hash.{sha256}
+use Rattle.hash_tree.specs.HashTree.{leafTag, leafHash}
 use borrow.Author.Needs.{needs}
 use Rattle.hash_tree.proofs.leaf_hash.Statement.{statement}
 use Rattle.hash_tree.proofs.leaf_hash.Tie as tie
-use Rattle.hash_tree.proofs.leaf_hash.Reads as reads
-use Rattle.hash_tree.proofs.leaf_hash.Lts as lts
-use Rattle.sha256.proofs.Sha256.finish.Reads as finish-reads
-use Rattle.sha256.proofs.Sha256.new.Reads as new-reads
-use Rattle.sha256.proofs.Sha256.update.Reads as update-reads
 
-new-requires : tie.Need-new-requires
-new-requires c κs = search needs
+slice-aggregate-joined : tie.Need-slice-aggregate-joined
+slice-aggregate-joined c = search needs
 
-slice-aggregate-update : tie.Need-slice-aggregate-update
-slice-aggregate-update c = search needs
+slice-aggregate-joined-2 : tie.Need-slice-aggregate-joined-2
+slice-aggregate-joined-2 c = search needs
 
-update-requires : tie.Need-update-requires
-update-requires c κs = search needs
-
-update-requires-2 : tie.Need-update-requires-2
-update-requires-2 c κs = search needs
-
-finish-requires : tie.Need-finish-requires
-finish-requires c κs = search needs
+joined-requires : tie.Need-joined-requires
+joined-requires c κs = search needs
 
 returns : tie.Need-returns
 unfolding leafHash
-returns c =
-    c .finish .ensures _ (c .before .update2 .ensures _ (c .before .before .update .ensures [] (c .before .before .before .before .new .ensures)))
+returns c = c .joined .ensures ∙ ap (λ (l : List ℕ). sha256 (leafTag ++ l)) (append-nil _)
 
 pub leaf-hash-spec : {M : Type 1} → statement M
-leaf-hash-spec =
-    tie.close
-    (tie.spec
-    new-requires
-    slice-aggregate-update
-    update-requires
-    update-requires-2
-    finish-requires
-    returns)
+leaf-hash-spec = tie.close (tie.spec slice-aggregate-joined slice-aggregate-joined-2 joined-requires returns)
