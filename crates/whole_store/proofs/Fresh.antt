@@ -1,4 +1,4 @@
--- The bytes that `create` writes are those of a fresh model.
+-- The bytes that `create` writes are those of a fresh model, whatever they were.
 use mathlib.Core.Path.{_≡_, refl, sym, ap, _∙_}
 use mathlib.Core.Bool.{Bool, true, false}
 use mathlib.Core.Logic.{_≢_}
@@ -6,17 +6,13 @@ use mathlib.Core.List.{List}
 use Prim.Native.Nat.{ℕ, zero, suc, _+_, _≤_, _<_}
 use native.Mathlib.Omega.{arith}
 use lib.Dec.{eqb, lit<}
-use lib.ListN.{length, getD, set, length-set, getD-replicate}
-use lib.Seq.{getD-set-same, getD-set-other, ext-getD}
+use lib.ListN.{length}
 use borrow.Author.Tests.{eqb-true, eqb-false, eq-eqb, ne-eqb}
 use Rattle.slots.specs.declared.Header.{Header}
 use Rattle.slots.specs.Bits.{Bytes}
-use Rattle.slots.specs.Layout.{storeLength, HasSlot, HeaderFits, SlotFits, freeSlot, zeros}
-use Rattle.slots.specs.Layout as layout
-use Rattle.slots.specs.Setters.{setHeader, setSlot, clearSlot, withSlots, bytesOf}
-use Rattle.slots.proofs.Lenses.{length-setDigest, length-setSlot}
-use Rattle.slots.proofs.Writing.{length-zeros, bytes-zeros, free-fits}
-use Rattle.slots.proofs.Whole.{length-bytesOf, bytes-bytesOf, header-bytesOf, slot-bytesOf, digest-bytesOf}
+use Rattle.slots.specs.Layout.{storeLength, HasSlot, HeaderFits, header, slot, digestOf, freeSlot, zeros}
+use Rattle.slots.specs.Setters.{setHeader, clearSlot, Wrote, Headed}
+use Rattle.slots.proofs.Writing.{wrote-free, headed}
 use Rattle.llrb.specs.Tree.{size}
 use Rattle.store.specs.Counts.{numbersFrom, numbersTo}
 use Rattle.store.specs.Model.{head, fresh}
@@ -24,8 +20,7 @@ use Rattle.store.specs.Sound.{Chain, Laid}
 use Rattle.store.specs.Encode.{encode}
 use Rattle.store.proofs.Operating.{fresh-lawful}
 use Rattle.store.proofs.Encoding.{encoded}
-use Rattle.judge.specs.Steps.{Sized}
-use Rattle.whole_store.specs.Fresh.{nextOf, slotOf, digestOf, chained}
+use Rattle.whole_store.specs.Fresh.{nextOf}
 
 pub next-last : (cap x : ℕ) → x ≡ cap → nextOf cap x ≡ 0
 unfolding nextOf
@@ -45,110 +40,82 @@ next-lt cap x p = go (eqb x cap) refl
 abbrev pub freshHeader : ℕ → Header
 freshHeader cap = record { edition = 1; capacity = cap; live = 0; root = 0; free = 1; zero = 0 }
 
-module _ (cap : ℕ) (least : 1 ≤ cap) (most : cap ≤ 1024) where
-  abbrev h : Header
-  h = freshHeader cap
+-- ---- the loop over the slots
 
-  abbrev s : List ℕ
-  s = bytesOf h cap (slotOf cap) digestOf
+-- as far as it has come: the first n slots are free, each naming the next, with no digest
+pub record Chained (cap : ℕ) (s : List ℕ) (n : ℕ) : Type 0 where
+  pub len : length s ≡ storeLength cap
+  pub bytes : Bytes s
+  pub slots : (j : ℕ) → 1 ≤ j → j ≤ n → slot s j ≡ freeSlot (nextOf cap j)
+  pub digests : (j : ℕ) → 1 ≤ j → j ≤ n → digestOf s j ≡ zeros 32
 
-  few : cap < 2048
-  few = omega arith
+pub chained-none : {cap : ℕ} {s : List ℕ} → length s ≡ storeLength cap → Bytes s → Chained cap s 0
+chained-none e b = record { len = e; bytes = b; slots = λ j p q. absurd (omega arith); digests = λ j p q. absurd (omega arith) }
 
-  ok : (i : ℕ) → 1 ≤ i → i ≤ cap → SlotFits (slotOf cap i)
-  ok i a b = free-fits (nextOf cap i) (next-lt cap i (omega arith))
+module _ {cap : ℕ} (most : cap ≤ 1024) {s : List ℕ} {n : ℕ} (a : Chained cap s n) where
+  pub chained-slot : (x : ℕ) → 1 ≤ x → x ≤ cap → HasSlot (length s) x
+  chained-slot x p q = record { low = p; high = omega arith; fits = omega (arith, a .len) }
 
-  wide : (i : ℕ) → 1 ≤ i → i ≤ cap → length (digestOf i) ≡ 32
-  wide i a b = length-zeros 32
+  module _ {s′ : List ℕ} {y : ℕ} (p : n < cap) (ey : y ≡ nextOf cap (n + 1)) (e : s′ ≡ clearSlot s (n + 1) y) where
+    w : Wrote s s′ (n + 1) (freeSlot y) (zeros 32)
+    w = wrote-free (chained-slot (n + 1) (omega arith) (omega arith)) e (omega (arith, ey, next-lt cap (n + 1) (omega arith)))
 
-  pub header-fits : HeaderFits h
-  header-fits = record { edition = lit< tt; capacity = omega arith; live = lit< tt; root = lit< tt; free = lit< tt; zero = lit< tt }
+    by : (j : ℕ) → 1 ≤ j → j ≤ n + 1 → (b : Bool) → eqb j (n + 1) ≡ b → (slot s′ j ≡ freeSlot (nextOf cap j)) × (digestOf s′ j ≡ zeros 32)
+    by j l q true x =
+        let i : j ≡ n + 1 = eqb-true j (n + 1) x in
+        (ap (slot s′) i ∙ w .here ∙ ap freeSlot (ey ∙ ap (nextOf cap) (sym i)), ap (digestOf s′) i ∙ w .digest)
+    by j l q false x =
+        let ne : j ≢ n + 1 = eqb-false j (n + 1) x in
+        let there : HasSlot (length s) j = chained-slot j l (omega arith) in
+        let less : j ≤ n = omega (arith, q, ne) in
+        (w .kept .slots j there ne ∙ a .slots j l less, w .kept .digests j there ne ∙ a .digests j l less)
 
-  bytes : Bytes s
-  bytes = bytes-bytesOf h cap (slotOf cap) digestOf (λ i a b. bytes-zeros 48) (λ i a b. bytes-zeros 64) (λ i a b. bytes-zeros 32)
+    pub chained-next : Chained cap s′ (n + 1)
+    chained-next =
+        record {
+          len = w .kept .len ∙ a .len;
+          bytes = w .kept .bytes (a .bytes);
+          slots = λ j l q. by j l q (eqb j (n + 1)) refl .0;
+          digests = λ j l q. by j l q (eqb j (n + 1)) refl .1;
+        }
 
-  next-is : (a n : ℕ) → a + n ≡ cap → head (numbersFrom (suc a) n) ≡ nextOf cap a
-  next-is a zero e = sym (next-last cap a (omega arith))
-  next-is a (suc n) e = omega (arith, next-on cap a (λ x. omega arith))
+-- ---- the header at last
 
-  chain : (a n : ℕ) → 1 ≤ a → a + n ≡ suc cap → Chain s (numbersFrom a n)
-  chain a zero p e = tt
-  chain a (suc n) p e = (
-    slot-bytesOf h cap (slotOf cap) digestOf few ok wide a p (omega arith) ∙ ap (λ (z : ℕ). freeSlot z) (sym (next-is a n (omega arith))),
-    digest-bytesOf h cap (slotOf cap) digestOf few ok wide a p (omega arith),
-    chain (suc a) n (omega arith) (omega arith),
-  )
+pub header-fits : (cap : ℕ) → cap ≤ 1024 → HeaderFits (freshHeader cap)
+header-fits cap most = record { edition = lit< tt; capacity = omega arith; live = lit< tt; root = lit< tt; free = lit< tt; zero = lit< tt }
+
+module _ (cap : ℕ) (least : 1 ≤ cap) (most : cap ≤ 1024) {s s′ : List ℕ} {n : ℕ} (a : Chained cap s n) (all : n ≡ cap) (e : s′ ≡ setHeader s (freshHeader cap)) where
+  h : Headed s s′ (freshHeader cap)
+  h = headed (omega (arith, a .len)) e (header-fits cap most)
+
+  next-is : (x n : ℕ) → x + n ≡ cap → head (numbersFrom (suc x) n) ≡ nextOf cap x
+  next-is x zero p = sym (next-last cap x (omega arith))
+  next-is x (suc n) p = omega (arith, next-on cap x (λ y. omega arith))
 
   first : (n : ℕ) → 1 ≤ n → head (numbersTo n) ≡ 1
   first zero p = absurd (omega arith)
   first (suc n) p = refl
 
-  laid : Laid s (fresh cap)
+  chain : (x m : ℕ) → 1 ≤ x → x + m ≡ suc cap → Chain s′ (numbersFrom x m)
+  chain x zero p q = tt
+  chain x (suc m) p q =
+      let there : HasSlot (length s) x = chained-slot most a x p (omega arith) in (
+        h .slots x there ∙ a .slots x p (omega arith) ∙ ap freeSlot (sym (next-is x m (omega arith))),
+        h .digests x there ∙ a .digests x p (omega arith),
+        chain (suc x) m (omega arith) (omega arith),
+      )
+
+  laid : Laid s′ (fresh cap)
   unfolding fresh size
   laid =
       let f = first cap least in
       record {
-        len = length-bytesOf h cap (slotOf cap) digestOf;
-        header = header-bytesOf h cap (slotOf cap) digestOf header-fits ∙ (λ i. record { edition = 1; capacity = cap; live = 0; root = 0; free = sym f i; zero = 0 });
+        len = h .len ∙ a .len;
+        header = h .here ∙ (λ i. record { edition = 1; capacity = cap; live = 0; root = 0; free = sym f i; zero = 0 });
         nodes = tt;
         digests = tt;
         chain = chain 1 cap (omega arith) (omega arith);
       }
 
-  pub fresh-bytes : bytesOf h cap (slotOf cap) digestOf ≡ encode (fresh cap)
-  fresh-bytes = encoded bytes (record { laid = laid; lawful = fresh-lawful cap least most })
-
--- ---- the first loop: all bytes zero
-
-pub record Wiped (s₀ s : List ℕ) (i : ℕ) : Type 0 where
-  pub len : length s ≡ length s₀
-  pub front : (j : ℕ) → j < i → getD s j 0 ≡ 0
-
-pub wiped-next : {s₀ s : List ℕ} {i : ℕ} → Wiped s₀ s i → i < length s → Wiped s₀ (set s i 0) (i + 1)
-wiped-next {s₀} {s} {i} w p = record { len = length-set s i 0 ∙ w .len; front = λ j q. at j q (eqb j i) refl }
-  where
-    at : (j : ℕ) → j < i + 1 → (b : Bool) → eqb j i ≡ b → getD (set s i 0) j 0 ≡ 0
-    at j q true e = let x : j ≡ i = eqb-true j i e in rw x (getD-set-same s i 0 0 p)
-    at j q false e = let x : j ≢ i = eqb-false j i e in getD-set-other s i j 0 0 x ∙ w .front j (omega arith)
-
-zero-at : (n j : ℕ) → j < n → getD (zeros n) j 0 ≡ 0
-unfolding zeros
-zero-at n j q = getD-replicate n j 0 0 q
-
-pub wiped-zeros : {s₀ s : List ℕ} {i : ℕ} → Wiped s₀ s i → length s ≤ i → s ≡ zeros (length s₀)
-wiped-zeros {s₀} {s} {i} w p =
-    ext-getD 0 s (zeros (length s₀)) (w .len ∙ sym (length-zeros (length s₀)))
-    (λ j q. w .front j (omega arith) ∙ sym (zero-at (length s₀) j (omega (arith, w .len))))
-
--- ---- the loop over the slots
-
-pub chained-none : (cap : ℕ) (z s : List ℕ) → s ≡ z → s ≡ chained cap 0 z
-unfolding withSlots
-chained-none cap z s e = e
-
-chained-one : (cap n : ℕ) (z : List ℕ) → clearSlot (chained cap n z) (suc n) (nextOf cap (suc n)) ≡ chained cap (suc n) z
-unfolding withSlots clearSlot
-chained-one cap n z = refl
-
-pub chained-next : (cap n x y : ℕ) (z s s′ : List ℕ) → x ≡ suc n → y ≡ nextOf cap x → s ≡ chained cap n z → s′ ≡ clearSlot s x y → s′ ≡ chained cap x z
-chained-next cap n x y z s s′ ex ey e f =
-    f ∙ (λ i. clearSlot (e i) x (ey i)) ∙ ap (λ (m : ℕ). clearSlot (chained cap n z) m (nextOf cap m)) ex ∙ chained-one cap n z ∙ ap (λ (m : ℕ). chained cap m z) (sym ex)
-
-pub length-chained : (cap n : ℕ) (z : List ℕ) → length (chained cap n z) ≡ length z
-unfolding withSlots
-length-chained cap zero z = refl
-length-chained cap (suc n) z =
-    length-setDigest (setSlot (chained cap n z) (suc n) (slotOf cap (suc n))) (suc n) (zeros 32) ∙ length-setSlot (chained cap n z) (suc n) (slotOf cap (suc n)) ∙ length-chained cap n z
-
-module _ {n cap : ℕ} (r : Sized n cap) (i : ℕ) (s : List ℕ) (e : s ≡ chained cap i (zeros (storeLength cap))) where
-  pub chained-length : length s ≡ storeLength cap
-  chained-length = ap length e ∙ length-chained cap i (zeros (storeLength cap)) ∙ length-zeros (storeLength cap)
-
-  pub chained-slot : (x : ℕ) → 1 ≤ x → x ≤ cap → HasSlot (length s) x
-  chained-slot x p q = record { low = p; high = omega (arith, r .most); fits = omega (arith, chained-length) }
-
--- the header at last
-pub headed : (cap n : ℕ) (s s′ : List ℕ) → 1 ≤ cap → cap ≤ 1024 → n ≡ cap → s ≡ chained cap n (zeros (storeLength cap)) → s′ ≡ setHeader s (freshHeader cap) → s′ ≡ encode (fresh cap)
-unfolding bytesOf
-headed cap n s s′ p q en e f =
-    f ∙ ap (λ (t : List ℕ). setHeader t (freshHeader cap)) (e ∙ ap (λ (m : ℕ). chained cap m (zeros (storeLength cap))) en) ∙ fresh-bytes cap p q
+  pub fresh-bytes : s′ ≡ encode (fresh cap)
+  fresh-bytes = encoded (h .bytes (a .bytes)) (record { laid = laid; lawful = fresh-lawful cap least most })

@@ -9,7 +9,7 @@ use slots::Header;
 ghost use mathlib.Core.Path.{_≡_};
 ghost use Prim.Native.Nat.{_≤_};
 ghost use lib.ListN.{length};
-ghost use Rattle.slots.specs.Layout.{HasSlot, digestOf, zeros};
+ghost use Rattle.slots.specs.Layout.{HasSlot, digestOf};
 ghost use Rattle.store.specs.Model.{fresh};
 ghost use Rattle.store.specs.Sound.{Sound};
 ghost use Rattle.store.specs.Encode.{encode};
@@ -17,16 +17,6 @@ ghost use Rattle.store.specs.Calls.{createAnswer, countAnswer, isEmptyAnswer, r
 ghost use Rattle.judge.specs.Steps.{Sized};
 ghost use Rattle.answers.specs.Answers.{changedOf};
 ghost use Rattle.whole_store.specs.Fresh.{nextOf};
-
-fn wipe(s: &mut [u8])
-    ensures { λ _. ⌜ now (s .exit) ≡ zeros (length (now (s .entry))) ⌝ }
-{
-    let mut i = 0;
-    while i < s.len() {
-        s[i] = 0;
-        i += 1;
-    }
-}
 
 // The slot after `x` in the chain.
 fn next(cap: usize, x: usize) -> usize
@@ -45,7 +35,6 @@ fn lay(s: &mut [u8], cap: usize)
     requires { ⌜ Sized (length (now s)) cap ⌝ }
     ensures { λ _. ⌜ now (s .exit) ≡ encode (fresh cap) ⌝ }
 {
-    wipe(s);
     let mut i = 0;
     while i < cap {
         let x = i + 1;

@@ -1,58 +1,48 @@
-use mathlib.Core.Path.{_≡_, ap, _∙_}
+-- `whole_store::lay` meets its contract: each turn frees a slot, whatever its bytes were.
 use Prim.Native.Nat.{_-_, _+_, _≤_}
 use native.Mathlib.Omega.{arith}
 use borrow.Author.Needs.{needs}
-use Rattle.slots.specs.Layout.{storeLength, zeros}
-use Rattle.whole_store.specs.Fresh.{chained}
-use Rattle.whole_store.proofs.Fresh.{header-fits, next-lt, chained-none, chained-next, chained-length, chained-slot, headed}
+use Rattle.whole_store.proofs.Fresh.{Chained, next-lt, chained-none, chained-next, chained-slot, header-fits, fresh-bytes}
 use Rattle.whole_store.proofs.lay.Statement.{statement}
 use Rattle.whole_store.proofs.lay.Tie as tie
 
 abbrev Inv-loop : tie.InvT-loop
-Inv-loop s₀ cap i₀ s i = (i ≤ cap) × (s ≡ chained cap i (zeros (storeLength cap)))
+Inv-loop s₀ cap i₀ s i = (i ≤ cap) × Chained cap s i
 
 abbrev μ-loop : tie.MeasureT-loop
 μ-loop s₀ cap i₀ s i = cap - i
 
-wipe-requires : tie.Need-wipe-requires Inv-loop μ-loop
-wipe-requires c κs =
-    search needs
-
 loop-holds : tie.Need-loop-holds Inv-loop μ-loop
-loop-holds c =
-    (omega arith, chained-none (c .before .before .before .before .before .args .cap) (zeros (storeLength (c .before .before .before .before .before .args .cap))) _ (c .before .before .wipe .ensures ∙ ap zeros (c .before .before .before .before .before .pre .1 .len)))
+loop-holds c = (omega arith, chained-none (c .before .pre .1 .len) (λ k. omega (arith, c .slice-known .given k)))
 
 add-x : tie.Need-add-x Inv-loop μ-loop
-add-x c =
-    omega (arith, c .before .before .before .before .before .before .before .pre .1 .most)
+add-x c = omega (arith, c .before .before .before .pre .1 .most)
 
 next-requires : tie.Need-next-requires Inv-loop μ-loop
-next-requires c κs =
-    omega (arith, c .before .before .before .before .before .before .before .pre .1 .most)
+next-requires c κs = omega (arith, c .before .before .before .pre .1 .most)
 
 clear-slot-requires : tie.Need-clear-slot-requires Inv-loop μ-loop
 clear-slot-requires c κs =
-    (chained-slot (c .before .before .before .before .before .before .before .before .before .pre .1) (c .before .before .before .loop .i) (c .before .before .before .loop .s) (c .before .before .before .loop .inv .1) (c .before .before .before .loop .i + 1) (omega arith) (omega arith), omega (arith, c .before .next .ensures, next-lt (c .before .before .before .before .before .before .before .before .before .args .cap) (c .before .before .before .loop .i + 1) (omega (arith, c .before .before .before .before .before .before .before .before .before .pre .1 .most))))
+    let most = c .before .before .before .before .before .pre .1 .most in
+    let i = c .before .before .before .loop .i in
+    (chained-slot most (c .before .before .before .loop .inv .1) (i + 1) (omega arith) (omega arith), omega (arith, c .before .next .ensures, next-lt (c .before .before .before .before .before .args .cap) (i + 1) (omega arith)))
 
 loop-less : tie.Need-loop-less Inv-loop μ-loop
-loop-less c =
-    omega arith
+loop-less c = omega arith
 
 loop-again : tie.Need-loop-again Inv-loop μ-loop
 loop-again c =
-    (omega arith, chained-next (c .before .before .before .before .before .before .before .before .before .before .before .before .args .cap) (c .before .before .before .before .before .before .loop .i) (c .before .before .before .before .before .before .loop .i + 1) (c .before .before .before .before .next .result) (zeros (storeLength (c .before .before .before .before .before .before .before .before .before .before .before .before .args .cap))) (c .before .before .before .before .before .before .loop .s) _ (omega arith) (c .before .before .before .before .next .ensures) (c .before .before .before .before .before .before .loop .inv .1) (c .before .before .clear-slot .ensures))
+    (omega arith, chained-next (c .before .before .before .before .before .before .before .before .pre .1 .most) (c .before .before .before .before .before .before .loop .inv .1) (omega arith) (c .before .before .before .before .next .ensures) (c .before .before .clear-slot .ensures))
 
 set-header-requires : tie.Need-set-header-requires Inv-loop μ-loop
-set-header-requires c κs =
-    (omega (arith, chained-length (c .before .before .before .before .before .before .before .before .pre .1) (c .before .before .loop .i) (c .before .before .loop .s) (c .before .before .loop .inv .1)), header-fits (c .before .before .before .before .before .before .before .before .args .cap) (c .before .before .before .before .before .before .before .before .pre .0) (c .before .before .before .before .before .before .before .before .pre .1 .most))
+set-header-requires c κs = (omega (arith, c .before .before .loop .inv .1 .len), header-fits (c .before .before .before .before .args .cap) (c .before .before .before .before .pre .1 .most))
 
 same-length : tie.Need-same-length Inv-loop μ-loop
-same-length c =
-    omega (arith, c .before .before .set-header .kept .0, chained-length (c .before .before .before .before .before .before .before .before .before .before .before .pre .1) (c .before .before .before .before .before .loop .i) (c .before .before .before .before .before .loop .s) (c .before .before .before .before .before .loop .inv .1), c .before .before .before .before .before .before .before .before .before .before .before .pre .1 .len)
+same-length c = omega (arith, c .before .before .set-header .kept .0, c .before .before .before .before .before .loop .inv .1 .len, c .before .before .before .before .before .before .before .pre .1 .len)
 
 returns : tie.Need-returns Inv-loop μ-loop
 returns c =
-    headed (c .before .before .before .before .before .before .before .before .before .before .before .args .cap) (c .before .before .before .before .before .loop .i) (c .before .before .before .before .before .loop .s) _ (c .before .before .before .before .before .before .before .before .before .before .before .pre .0) (c .before .before .before .before .before .before .before .before .before .before .before .pre .1 .most) (omega (arith, c .before .before .before .before .before .loop .inv .0)) (c .before .before .before .before .before .loop .inv .1) (c .before .before .set-header .ensures)
+    fresh-bytes (c .before .before .before .before .before .before .before .args .cap) (c .before .before .before .before .before .before .before .pre .0) (c .before .before .before .before .before .before .before .pre .1 .most) (c .before .before .before .before .before .loop .inv .1) (omega (arith, c .before .before .before .before .before .loop .inv .0)) (c .before .before .set-header .ensures)
 
 pub lay-spec : {M : Type 1} → statement M
 lay-spec =
@@ -60,7 +50,6 @@ lay-spec =
     (tie.spec
     Inv-loop
     μ-loop
-    wipe-requires
     loop-holds
     add-x
     next-requires
