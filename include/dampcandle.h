@@ -29,6 +29,12 @@
 extern "C" {
 #endif
 
+/* The release, in text and as numbers. `regmap --version` says the same. */
+#define DAMPCANDLE_VERSION "1.1.0"
+#define DAMPCANDLE_VERSION_MAJOR 1
+#define DAMPCANDLE_VERSION_MINOR 1
+#define DAMPCANDLE_VERSION_PATCH 0
+
 enum dampcandle_number {
   DAMPCANDLE_DONE = 0,
   DAMPCANDLE_NOT_SOUND = 1,    /* the store is not sound */
@@ -48,7 +54,8 @@ enum dampcandle_limit {
   DAMPCANDLE_MAX_KEY = 48,
   DAMPCANDLE_MAX_VALUE = 64,
   DAMPCANDLE_MAX_CAPACITY = 1024,
-  DAMPCANDLE_MAX_MESSAGE = 65536
+  DAMPCANDLE_MAX_MESSAGE = 65536,
+  DAMPCANDLE_MAX_WITNESS = 120830 /* the longest witness that a store can give: room for any answer */
 };
 
 #define DAMPCANDLE_STORE_LENGTH(capacity) (8 + 150 * (size_t)(capacity))
@@ -128,6 +135,46 @@ size_t dampcandle_rebuild(const uint8_t *witness, size_t witness_length, uint8_t
 
 /* The SHA-256 of a message. 0 or 10. */
 size_t dampcandle_hash(const uint8_t *message, size_t message_length, uint8_t digest[32]);
+
+/* ---- by value. A refused call leaves what it was lent, so a caller who lends the same 32 bytes again and forgets to look at the number
+ * meets an old digest. These fail closed: on a refusal the bytes are zero, and no digest is. */
+
+struct dampcandle_digest {
+  size_t number;
+  uint8_t bytes[DAMPCANDLE_DIGEST];
+};
+
+/* dampcandle_root_hash. */
+static inline struct dampcandle_digest dampcandle_root_hash_value(const uint8_t *store, size_t store_length) {
+  struct dampcandle_digest answer = {0, {0}};
+  answer.number = dampcandle_root_hash(store, store_length, answer.bytes);
+  return answer;
+}
+
+/* dampcandle_rebuild. */
+static inline struct dampcandle_digest dampcandle_rebuild_value(const uint8_t *witness, size_t witness_length) {
+  struct dampcandle_digest answer = {0, {0}};
+  answer.number = dampcandle_rebuild(witness, witness_length, answer.bytes);
+  return answer;
+}
+
+/* What a number means, in a few words. */
+static inline const char *dampcandle_text(size_t number) {
+  switch (number) {
+    case DAMPCANDLE_DONE: return "done";
+    case DAMPCANDLE_NOT_SOUND: return "the store is not sound";
+    case DAMPCANDLE_LONG_KEY: return "a key is longer than 48 bytes";
+    case DAMPCANDLE_LONG_VALUE: return "a value is longer than 64 bytes";
+    case DAMPCANDLE_REVERSED: return "first is above last";
+    case DAMPCANDLE_FULL: return "no slot is free";
+    case DAMPCANDLE_NO_ROOM: return "the output is shorter than the witness";
+    case DAMPCANDLE_ABSENT: return "there is no such key or entry";
+    case DAMPCANDLE_BAD_CAPACITY: return "the capacity or the length is not one of a store";
+    case DAMPCANDLE_MALFORMED: return "the bytes are not exactly one witness";
+    case DAMPCANDLE_LONG_MESSAGE: return "the message is longer than 65,536 bytes";
+    default: return "a number that this header does not know";
+  }
+}
 
 #ifdef __cplusplus
 }
