@@ -18,7 +18,7 @@ log=$(mktemp) || exit 2
 trap 'rm -f "$log"' EXIT
 echo "$2: proving $all crates; the first time it takes ten minutes or more on two cores, and what has not changed is not proved again" >&2
 { rt "$1" "$2" 2>&1; echo "status $?"; } | tee "$log" | awk -v all="$all" -v crate="$2" '
-  / proved/ && /^rt: / { n++; printf "%s: %s proved, %d of %d\n", crate, $2, n, all; fflush() }' >&2
+  /^rt: [a-z_0-9]+ proved/ { n++; printf "%s: %s proved, %d of %d\n", crate, $2, n, all; fflush() }' >&2
 case $(tail -n 1 "$log") in 'status 0') exit 0 ;; esac
 tail -n 20 "$log" >&2
 exit 1
