@@ -133,7 +133,9 @@ def export(source, folder):
             path, lines = os.path.join(folder, name + ".map"), []
             for at, title, size, code, reset, fields in rows:
                 where = f"{name}: {title}"
-                if at > 0xFFFF or size > 255 or reset > 0xFFFFFFFF: fault(f"{where}: offset, size or reset value does not fit its descriptor"); continue
+                if at > 0xFFFF or size > 255 or reset > 0xFFFFFFFF:
+                    fault(f"{where}: offset, size or reset value does not fit its descriptor")
+                    continue
                 label = f"{at:0{width}x}.{title}"
                 lines.append((label, f"{at:04x}{size:02x}{code:02x}{reset:08x}"))
                 for sub, low, wide, may in sorted(fields, key=lambda f: f[1]):
@@ -143,7 +145,8 @@ def export(source, folder):
                 if len(label) > 48: fault(f"{path}: {label} is longer than 48 bytes")
             if len(lines) > MOST: fault(f"{path}: {len(lines)} entries; a store takes {MOST}")
             with open(path, "w") as out:
-                out.write(f"# {name}, from {os.path.basename(source)} by svd-to-map.py\n# {len(lines)} register{'' if len(lines) == 1 else 's'}\n")
+                out.write(f"# {name}, from {os.path.basename(source)} by svd-to-map.py\n")
+                out.write(f"# {len(lines)} register{'' if len(lines) == 1 else 's'}\n")
                 out.writelines(f"{label} {value}\n" for label, value in lines)
             print(f"{path}: {len(rows)} registers, {len(lines) - len(rows)} fields")
 
@@ -162,7 +165,8 @@ def check(path):
         offset, field = int(found[1], 16), found[2] is not None
         widths.add(len(found[1]))
         place = (offset, int(found[3]) + 1 if field else 0)
-        if before and (name.encode() < before[1].encode()) != (place < before[0]): fault(f"{here}: the order of names is not the order of addresses: {before[1]}")
+        if before and (name.encode() < before[1].encode()) != (place < before[0]):
+            fault(f"{here}: the order of names is not the order of addresses: {before[1]}")
         before = (place, name)
         if not re.fullmatch("[0-9a-fA-F]{16}", value): continue
         if field: continue
