@@ -16,6 +16,10 @@
  * A store is 8 + 150 x capacity bytes (DAMPCANDLE_STORE_LENGTH), with room for capacity entries. It holds no pointers: it may be copied,
  * kept in a file and lent at another place. Every call judges it anew, all of it, and answers 1 unless it is sound.
  *
+ * Stack, measured on x86-64 over a store of 1,024 entries with the longest keys and values (scripts/c-stack.sh): create 40 bytes, hash 1,336;
+ * is_empty, count, root_hash, get, first_entry, next_entry, insert, modify and delete up to 6,100; the witness calls up to 12,100;
+ * rebuild 14,600 for a store's own witness, and up to 46,300 for bytes that are nested 64 records deep. Nothing is allocated.
+ *
  * Keys are byte strings of 0 to 48 bytes, in the order of their bytes as unsigned numbers, a proper prefix being smaller. Values are
  * byte strings of 0 to 64 bytes. */
 #ifndef DAMPCANDLE_H
@@ -28,6 +32,12 @@
 #ifdef __cplusplus
 extern "C" {
 #endif
+
+/* The release, in text and as numbers. `regmap --version` says the same. */
+#define DAMPCANDLE_VERSION "1.1.0"
+#define DAMPCANDLE_VERSION_MAJOR 1
+#define DAMPCANDLE_VERSION_MINOR 1
+#define DAMPCANDLE_VERSION_PATCH 0
 
 enum dampcandle_number {
   DAMPCANDLE_DONE = 0,
@@ -48,7 +58,8 @@ enum dampcandle_limit {
   DAMPCANDLE_MAX_KEY = 48,
   DAMPCANDLE_MAX_VALUE = 64,
   DAMPCANDLE_MAX_CAPACITY = 1024,
-  DAMPCANDLE_MAX_MESSAGE = 65536
+  DAMPCANDLE_MAX_MESSAGE = 65536,
+  DAMPCANDLE_MAX_WITNESS = 120830 /* the longest witness that a store can give: room for any answer */
 };
 
 #define DAMPCANDLE_STORE_LENGTH(capacity) (8 + 150 * (size_t)(capacity))
@@ -128,6 +139,46 @@ size_t dampcandle_rebuild(const uint8_t *witness, size_t witness_length, uint8_t
 
 /* The SHA-256 of a message. 0 or 10. */
 size_t dampcandle_hash(const uint8_t *message, size_t message_length, uint8_t digest[32]);
+
+/* ---- by value. A refused call leaves what it was lent, so a caller who lends the same 32 bytes again and forgets to look at the number
+ * meets an old digest. These fail closed: on a refusal the bytes are zero, and no digest is. */
+
+struct dampcandle_digest {
+  size_t number;
+  uint8_t bytes[DAMPCANDLE_DIGEST];
+};
+
+/* dampcandle_root_hash. */
+static inline struct dampcandle_digest dampcandle_root_hash_value(const uint8_t *store, size_t store_length) {
+  struct dampcandle_digest answer = {0, {0}};
+  answer.number = dampcandle_root_hash(store, store_length, answer.bytes);
+  return answer;
+}
+
+/* dampcandle_rebuild. */
+static inline struct dampcandle_digest dampcandle_rebuild_value(const uint8_t *witness, size_t witness_length) {
+  struct dampcandle_digest answer = {0, {0}};
+  answer.number = dampcandle_rebuild(witness, witness_length, answer.bytes);
+  return answer;
+}
+
+/* What a number means, in a few words. */
+static inline const char *dampcandle_text(size_t number) {
+  switch (number) {
+    case DAMPCANDLE_DONE: return "done";
+    case DAMPCANDLE_NOT_SOUND: return "the store is not sound";
+    case DAMPCANDLE_LONG_KEY: return "a key is longer than 48 bytes";
+    case DAMPCANDLE_LONG_VALUE: return "a value is longer than 64 bytes";
+    case DAMPCANDLE_REVERSED: return "first is above last";
+    case DAMPCANDLE_FULL: return "no slot is free";
+    case DAMPCANDLE_NO_ROOM: return "the output is shorter than the witness";
+    case DAMPCANDLE_ABSENT: return "there is no such key or entry";
+    case DAMPCANDLE_BAD_CAPACITY: return "the capacity or the length is not one of a store";
+    case DAMPCANDLE_MALFORMED: return "the bytes are not exactly one witness";
+    case DAMPCANDLE_LONG_MESSAGE: return "the message is longer than 65,536 bytes";
+    default: return "a number that this header does not know";
+  }
+}
 
 #ifdef __cplusplus
 }

@@ -16,10 +16,11 @@ missing() {
   echo "c-tour: $1 is missing; on Debian: apt-get install $needs" >&2
   exit 2
 }
-for tool in rt "$cc" "${run[@]}"; do command -v "$tool" >/dev/null || missing "$tool"; done
+command -v rt >/dev/null || { echo "c-tour: rt is missing: the Rattle kit is needed, and must be on the PATH" >&2; exit 2; }
+for tool in "$cc" "${run[@]}"; do command -v "$tool" >/dev/null || missing "$tool"; done
 echo '#include <stdio.h>' | "$cc" -E - >/dev/null 2>&1 || missing "the C library's headers for $cc"
 
-rt staticlib c_boundary >"$room/log" 2>&1 || { tail -n 20 "$room/log"; exit 1; }
+scripts/prove.sh staticlib c_boundary || exit 1
 warn=(-Wall -Wextra -Wpedantic -Wconversion -Werror -Iinclude)
 "$cc" -std=c11 "${warn[@]}" -O2 -static examples/c/tour.c target/staticlib/libc_boundary.a -o "$room/tour"
 if command -v c++ >/dev/null; then

@@ -86,7 +86,7 @@ static void read_one(void) {
 
 static void walk(void) {
   const char *order[] = {"uart.control", "uart.data", "uart.status"};
-  size_t *p = places, n = 0;
+  size_t *p = places, n = 0; /* set above, before they are lent */
   for (size_t number = dampcandle_first_entry(store, LENGTH, p, p + 1, p + 2, p + 3); number == 0; n++) {
     printf("   %.*s\n", (int)p[1], (const char *)store + p[0]);
     expect(n < 3 && p[1] == strlen(order[n]) && !memcmp(store + p[0], order[n], p[1]), "in order");
@@ -102,22 +102,27 @@ static void walk(void) {
 /* ---- witnesses */
 
 static void rebuilds(size_t number, const char *what) {
-  uint8_t root[32], rebuilt[32] = {0};
   answers(0, number, what);
-  expect(dampcandle_root_hash(store, LENGTH, root) == 0, "root_hash");
-  expect(dampcandle_rebuild(out, length, rebuilt) == 0, "rebuild");
-  printf("   %zu bytes, %s\n", length, memcmp(root, rebuilt, 32) ? "another digest" : "the root digest");
-  expect(!memcmp(root, rebuilt, 32), "a witness rebuilds to the root digest");
+  struct dampcandle_digest root = dampcandle_root_hash_value(store, LENGTH), rebuilt = dampcandle_rebuild_value(out, length);
+  expect(root.number == 0, "root_hash");
+  expect(rebuilt.number == 0, "rebuild");
+  printf("   %zu bytes, %s\n", length, memcmp(root.bytes, rebuilt.bytes, 32) ? "another digest" : "the root digest");
+  expect(!memcmp(root.bytes, rebuilt.bytes, 32), "a witness rebuilds to the root digest");
 }
 
+/* Whether a Labeled has this label: record after record, for the same bytes may stand in a value or a digest. To be asked only of a
+ * witness that rebuild took. A record opens with 3 bits of kind, 2 for Labeled, and 13 of length. */
 static bool holds(const char *label) {
   size_t n = strlen(label);
-  for (size_t i = 0; i + n <= length; i++)
-    if (!memcmp(out + i, label, n)) return true;
+  for (size_t at = 0, own; at + 2 <= length; at += 2 + own) {
+    own = (size_t)(out[at] & 31) << 8 | out[at + 1];
+    if (out[at] >> 5 == 2 && own == n && !memcmp(out + at + 2, label, n)) return true;
+  }
   return false;
 }
 
 static void witnesses(void) {
+  memset(digest, 0, 32);
   answers(0, dampcandle_root_hash(store, LENGTH, digest), "root_hash");
   show("root", digest, 32);
   keep();
@@ -134,12 +139,17 @@ static void witnesses(void) {
   rebuilds(dampcandle_value_range(store, LENGTH, BYTES("uart.d"), BYTES("uart.e"), out, ROOM, &length), "value_range uart.d to uart.e");
   rebuilds(dampcandle_keys_with_prefix(store, LENGTH, BYTES("uart.s"), out, ROOM, &length), "keys_with_prefix uart.s");
 
-  uint8_t root[32], other[32];
-  expect(dampcandle_root_hash(store, LENGTH, root) == 0, "root_hash");
+  struct dampcandle_digest root = dampcandle_root_hash_value(store, LENGTH);
+  expect(root.number == 0, "root_hash");
   out[length - 1] ^= 1;
-  answers(0, dampcandle_rebuild(out, length, other), "rebuild, one bit turned");
-  expect(memcmp(root, other, 32), "a turned bit shows");
+  struct dampcandle_digest other = dampcandle_rebuild_value(out, length);
+  answers(0, other.number, "rebuild, one bit turned");
+  expect(memcmp(root.bytes, other.bytes, 32), "a turned bit shows");
   puts("   another digest");
+  other = dampcandle_rebuild_value(out, length - 1);
+  answers(9, other.number, "rebuild by value, cut short");
+  printf("   %s\n", dampcandle_text(other.number));
+  for (size_t i = 0; i < 32; i++) expect(other.bytes[i] == 0, "a refusal by value is zero");
 }
 
 /* ---- refusals */
@@ -185,7 +195,7 @@ static void known(void) {
   const uint8_t fresh[8] = {0x10, 0x02, 0x00, 0x00, 0x00, 0x01, 0x00, 0x00}, only_a[6] = {0x40, 0x01, 0x61, 0x60, 0x01, 0x07}, seven = 7;
   const uint8_t abc[32] = {0xba, 0x78, 0x16, 0xbf, 0x8f, 0x01, 0xcf, 0xea, 0x41, 0x41, 0x40, 0xde, 0x5d, 0xae, 0x22, 0x23,
                            0xb0, 0x03, 0x61, 0xa3, 0x96, 0x17, 0x7a, 0x9c, 0xb4, 0x10, 0xff, 0x61, 0xf2, 0x00, 0x15, 0xad};
-  uint8_t one[DAMPCANDLE_STORE_LENGTH(1)];
+  uint8_t one[DAMPCANDLE_STORE_LENGTH(1)] = {0};
   answers(0, dampcandle_create(one, sizeof one, 1), "create, capacity 1");
   show("header", one, 8);
   expect(!memcmp(one, fresh, 8), "a fresh header");
@@ -200,7 +210,7 @@ static void known(void) {
 }
 
 static void capacities(void) {
-  static uint8_t large[DAMPCANDLE_STORE_LENGTH(1025)];
+  static uint8_t large[DAMPCANDLE_STORE_LENGTH(1025)]; /* all zero */
   answers(8, dampcandle_create(large, DAMPCANDLE_STORE_LENGTH(0), 0), "create, capacity 0");
   answers(8, dampcandle_create(large, DAMPCANDLE_STORE_LENGTH(1025), 1025), "create, capacity 1,025");
   for (size_t i = 0; i < sizeof large; i++) expect(large[i] == 0, "a refusal changed the bytes");
@@ -208,6 +218,7 @@ static void capacities(void) {
 }
 
 int main(void) {
+  puts("Dampcandle " DAMPCANDLE_VERSION);
   fill();
   read_one();
   walk();

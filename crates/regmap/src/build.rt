@@ -1,11 +1,25 @@
 // A store from a map: a text file with a register a line, NAME HEX.
-use crate::says::DONE;
-use crate::says::REFUSED;
-use crate::says::meaning;
-use crate::says::refuse;
-use crate::stores::keep;
+use crate::stores::say_store;
+use crate::witnesses::said_to;
 use judge::judge;
 use rb_tree::Inserted;
+use regmap_files::Loaded;
+use regmap_files::load;
+use regmap_files::save;
+use regmap_words::map::Fault;
+use regmap_words::map::first_with;
+use regmap_words::map::line_at;
+use regmap_words::map::lines_of;
+use regmap_words::map::miscount;
+use regmap_words::map::register_of;
+use regmap_words::map::say_fault;
+use regmap_words::map::stops;
+use regmap_words::map::unzeroed;
+use regmap_words::says::DONE;
+use regmap_words::says::REFUSED;
+use regmap_words::says::TROUBLE;
+use regmap_words::says::refuse;
+use regmap_words::says::say_registers;
 use search::Place;
 use text::hex;
 use text::hex::Few;
@@ -13,6 +27,7 @@ use text::hex::Number;
 use text::print::say;
 use text::print::say_number;
 use text::print::say3;
+use text::words::blanked;
 use text::words::find;
 use text::words::has;
 use text::words::is;
@@ -20,89 +35,13 @@ use text::words::part;
 use text::words::piece;
 use text::words::within;
 use text::words::word;
-ghost use Prim.Native.Nat.{_≤_};
 ghost use Rattle.store.specs.Sound.{Sound};
 ghost use Rattle.rb_tree.specs.Stores.{Asked};
-
-// ---- a line
-
-// What is wrong with a line; below 10 it is a number of document 01, 0 if the line is taken.
-const TAKEN: usize = 0;
-
-const LONG_NAME: usize = 2;
-
-const LONG_VALUE: usize = 3;
-
-const FULL: usize = 5;
-
-const NO_VALUE: usize = 10;
-
-const MORE_WORDS: usize = 11;
-
-const BAD_NAME: usize = 12;
-
-const BAD_VALUE: usize = 13;
-
-const TWICE: usize = 14;
-
-// A line with no register on it.
-const EMPTY: usize = 20;
-
-struct Register {
-    fault: usize,
-    name: Few,
-    value: Few,
-}
-
-fn is_comment(word: &[u8]) -> bool {
-    is(part(word, 0, 1), b"#")
-}
-
-fn fault_of(line: &[u8], name: Few, value: Few) -> usize {
-    if register_on(line) == 0 {
-        return EMPTY;
-    }
-    if has(line, 1) || is_comment(word(line, 1)) {
-        return NO_VALUE;
-    }
-    if !(has(line, 2) || is_comment(word(line, 2))) {
-        return MORE_WORDS;
-    }
-    if !name.ok {
-        return BAD_NAME;
-    }
-    if !value.ok {
-        return BAD_VALUE;
-    }
-    TAKEN
-}
-
-fn register_of(line: &[u8]) -> Register {
-    let name = hex::name(word(line, 0));
-    let value = hex::value(word(line, 1));
-    let fault = fault_of(line, name, value);
-    Register { fault, name, value }
-}
-
-// What is wrong and what to do, from NO_VALUE on. A zero byte parts them.
-const FAULTS: [u8; 332] = *b"a name and no value: write NAME HEX, or NAME - for an empty value.\0\
-more than a name and a value: write NAME HEX; a comment begins with #.\0\
-after hex: come two hex digits for each byte of the name.\0\
-the value is no hex: write two digits for each byte, or - for none.\0\
-this name stood above with another value: keep one of the two lines.";
-
-fn say_fault(err: i32, fault: usize) {
-    if fault < NO_VALUE {
-        return meaning(err, fault);
-    }
-    say(err, word(&FAULTS, fault - NO_VALUE));
-    say(err, b"\n");
-}
 
 // ---- the store
 
 // A new register; one that is there already must have this value.
-fn put(store: &mut [u8], key: &[u8], value: &[u8]) -> usize
+fn put(store: &mut [u8], key: &[u8], value: &[u8]) -> Fault
     requires { ⌜ Asked (now key) (now value) (now store) ⌝ }
     ensures { λ _. ⌜ Sound (now (store .exit)) ⌝ }
 {
@@ -111,12 +50,12 @@ fn put(store: &mut [u8], key: &[u8], value: &[u8]) -> usize
         return again(store, place, value);
     };
     let Inserted::Done = rb_tree::insert(store, key, value) else {
-        return FULL;
+        return Fault::Full;
     };
-    TAKEN
+    Fault::Taken
 }
 
-fn again(store: &[u8], place: Place, value: &[u8]) -> usize {
+fn again(store: &[u8], place: Place, value: &[u8]) -> Fault {
     let Place::At {
         key_at: _,
         key_length: _,
@@ -124,15 +63,15 @@ fn again(store: &[u8], place: Place, value: &[u8]) -> usize {
         value_length,
     } = place
     else {
-        return TWICE;
+        return Fault::Twice;
     };
     if is(piece(store, value_at, value_length), value) {
-        return TAKEN;
+        return Fault::Taken;
     }
-    TWICE
+    Fault::Twice
 }
 
-fn put_register(store: &mut [u8], name: Few, value: Few) -> usize
+fn put_register(store: &mut [u8], name: Few, value: Few) -> Fault
     requires { ⌜ Sound (now store) ⌝ }
     ensures { λ _. ⌜ Sound (now (store .exit)) ⌝ }
 {
@@ -141,36 +80,32 @@ fn put_register(store: &mut [u8], name: Few, value: Few) -> usize
     let key = part(&n, 0, name.len);
     let bytes = part(&v, 0, value.len);
     if 48 < key.len() {
-        return LONG_NAME;
+        return Fault::LongName;
     }
     if 64 < bytes.len() {
-        return LONG_VALUE;
+        return Fault::LongValue;
     }
     put(store, key, bytes)
 }
 
-fn take(line: &[u8], store: &mut [u8]) -> usize
+fn take(line: &[u8], store: &mut [u8]) -> Fault
     requires { ⌜ Sound (now store) ⌝ }
     ensures { λ _. ⌜ Sound (now (store .exit)) ⌝ }
 {
     let r = register_of(line);
     let fault = r.fault;
-    if fault != TAKEN {
+    let Fault::Taken = fault else {
         return fault;
-    }
+    };
     let name = r.name;
     let value = r.value;
     put_register(store, name, value)
 }
 
-// What stopped the reading of a map, and in which line; a fault of 0 if nothing did.
+// What stopped the reading of a map, and in which line; Taken if nothing did.
 struct Stop {
-    fault: usize,
+    fault: Fault,
     line: usize,
-}
-
-fn stops(fault: usize) -> bool {
-    fault != TAKEN && fault != EMPTY
 }
 
 // Every line of the map into a sound store.
@@ -188,20 +123,20 @@ fn put_lines(text: &[u8], store: &mut [u8]) -> Stop
         at = end + 1;
         line += 1;
     }
-    Stop { fault: TAKEN, line }
+    let fault = Fault::Taken;
+    Stop { fault, line }
 }
 
 // A fresh store with every line of the map in it.
 fn filled(text: &[u8], store: &mut [u8], capacity: usize) -> Stop {
     let number = register_map::create(store, capacity as u64);
     if number != 0 {
-        return Stop {
-            fault: number,
-            line: 0,
-        };
+        let fault = Fault::Capacity;
+        return Stop { fault, line: 0 };
     }
     if !judge(store) {
-        return Stop { fault: 1, line: 0 };
+        let fault = Fault::Unsound;
+        return Stop { fault, line: 0 };
     }
     put_lines(text, store)
 }
@@ -217,39 +152,59 @@ fn size(capacity: usize) -> usize {
 
 // ---- the command
 
-fn refuse_line(map: &[u8], stop: Stop, err: i32) -> usize {
-    if stop.line == 0 {
-        return refuse(err, stop.fault);
-    }
+fn say_place(map: &[u8], line: usize, err: i32) {
     say3(err, b"regmap: ", map, b":");
-    say_number(err, stop.line);
+    say_number(err, line);
     say(err, b": ");
-    say_fault(err, stop.fault);
+}
+
+fn refuse_line(map: &[u8], text: &[u8], stop: Stop, err: i32) -> usize {
+    let number = stop.line;
+    if number == 0 {
+        return refuse(err, map, 8);
+    }
+    let fault = stop.fault;
+    say_place(map, number, err);
+    say_fault(err, fault, line_at(text, number), first_with(text, number));
     REFUSED
 }
 
-// 1 for a line that holds something, 0 for a blank or a comment.
-fn register_on(line: &[u8]) -> usize
-    ensures { λ r. ⌜ r ≤ 1 ⌝ }
-{
-    if has(line, 0) || is_comment(word(line, 0)) {
-        return 0;
-    }
-    1
+fn refuse_count(map: &[u8], line: usize, count: usize, err: i32) -> usize {
+    say_place(map, line, err);
+    say(err, b"here it says otherwise, but the map has ");
+    say_registers(err, count);
+    say(
+        err,
+        b": it was cut short or changed. Get it whole, or put that line right.\n",
+    );
+    REFUSED
 }
 
-// How many lines hold something, at most 1024 and at least 1.
-fn lines_of(text: &[u8]) -> usize {
-    let mut n = 0;
-    let mut at = 0;
-    while at < text.len() {
-        let end = find(text, at, b'\n');
-        n += register_on(&text[at..end]);
-        at = end + 1;
+// Writes the store, if nothing stopped the reading of its map and its count agrees.
+fn finished(line: &[u8], text: &[u8], stop: Stop, store: &[u8], err: i32) -> usize {
+    let fault = stop.fault;
+    if stops(fault) {
+        return refuse_line(word(line, 1), text, stop, err);
     }
-    lawful(n)
+    let r = register_map::count(store);
+    let wrong = miscount(text, r.count);
+    if wrong != 0 {
+        return refuse_count(word(line, 1), wrong, r.count, err);
+    }
+    if !save(word(line, 2), store, true, err) {
+        return TROUBLE;
+    }
+    say_store(said_to(word(line, 2)), store);
+    DONE
 }
 
+fn made(line: &[u8], text: &[u8], store: &mut [u8], capacity: usize, err: i32) -> usize {
+    let n = within(size(capacity), store);
+    let stop = filled(text, &mut store[..n], capacity);
+    finished(line, text, stop, part(store, 0, n), err)
+}
+
+// At most 1024 and at least 1.
 fn lawful(n: usize) -> usize {
     if n == 0 {
         return 1;
@@ -257,23 +212,10 @@ fn lawful(n: usize) -> usize {
     if n < 1024 { n } else { 1024 }
 }
 
-// Writes the store, if nothing stopped the reading of its map.
-fn finish(line: &[u8], stop: Stop, store: &[u8], err: i32) -> usize {
-    if stop.fault != TAKEN {
-        return refuse_line(word(line, 1), stop, err);
-    }
-    keep(word(line, 2), store, err)
-}
-
-fn made(line: &[u8], text: &[u8], store: &mut [u8], capacity: usize, err: i32) -> usize {
-    let n = within(size(capacity), store);
-    let stop = filled(text, &mut store[..n], capacity);
-    finish(line, stop, part(store, 0, n), err)
-}
-
 // How many names there are, if every line was taken.
 fn names_in(stop: Stop, store: &[u8], lines: usize) -> usize {
-    if stop.fault != TAKEN {
+    let fault = stop.fault;
+    if stops(fault) {
         return lines;
     }
     let r = register_map::count(store);
@@ -282,23 +224,33 @@ fn names_in(stop: Stop, store: &[u8], lines: usize) -> usize {
 
 // With a slot for each line; if a name stood twice, made anew with one for each name.
 fn fitted(line: &[u8], text: &[u8], store: &mut [u8], err: i32) -> usize {
-    let lines = lines_of(text);
+    let lines = lawful(lines_of(text));
     let n = within(size(lines), store);
     let stop = filled(text, &mut store[..n], lines);
     let names = names_in(stop, part(store, 0, n), lines);
     if names < lines {
         return made(line, text, store, names, err);
     }
-    finish(line, stop, part(store, 0, n), err)
+    finished(line, text, stop, part(store, 0, n), err)
 }
 
-// The map's blanks are zeros by now.
-pub(crate) fn build(line: &[u8], text: &[u8], store: &mut [u8], err: i32) -> usize {
+fn built(line: &[u8], text: &[u8], err: i32) -> usize {
+    let mut store = [0u8; 153_608];
     if has(line, 3) {
-        return fitted(line, text, store, err);
+        return fitted(line, text, &mut store, err);
     }
     let Number::Is(capacity) = hex::decimal(word(line, 4)) else {
-        return refuse(err, 8);
+        return refuse(err, word(line, 4), 8);
     };
-    made(line, text, store, capacity as usize, err)
+    made(line, text, &mut store, capacity as usize, err)
+}
+
+pub(crate) fn build(line: &[u8], err: i32) -> usize {
+    let mut text = [0u8; 524_288];
+    let Loaded::Whole(n) = load(word(line, 1), &mut text, err) else {
+        return TROUBLE;
+    };
+    unzeroed(&mut text);
+    blanked(&mut text);
+    built(line, part(&text, 0, n), err)
 }

@@ -1,10 +1,11 @@
-// One command, or a file of them.
+// Commands from the arguments, or from a file with a command a line.
 use crate::commands::command;
-use crate::files::Loaded;
-use crate::files::load;
-use crate::says::DONE;
-use crate::says::OUT;
-use crate::says::TROUBLE;
+use regmap_files::Loaded;
+use regmap_files::load;
+use regmap_files::lost;
+use regmap_words::says::DONE;
+use regmap_words::says::OUT;
+use regmap_words::says::TROUBLE;
 use text::print::say;
 use text::print::say_number;
 use text::words::blanked;
@@ -24,23 +25,33 @@ fn may_fail(line: &[u8]) -> bool {
 }
 
 fn is_empty(line: &[u8]) -> bool {
-    has(line, 0) || is(part(word(line, 0), 0, 1), b"#")
-}
-
-// Does a line's command, and answers the status with which the run stops.
-fn step(line: &[u8], store: &mut [u8], buf: &mut [u8]) -> usize {
-    if may_fail(line) {
-        let status = command(rest(line, 1), store, buf, OUT);
-        say_status(status);
-        return DONE;
+    if has(line, 0) {
+        return true;
     }
-    command(line, store, buf, OUT)
+    is(part(word(line, 0), 0, 1), b"#")
 }
 
 fn say_status(status: usize) {
     say(OUT, b"status ");
     say_number(OUT, status);
     say(OUT, b"\n");
+}
+
+// Does a line's command, and answers the status with which the run stops.
+fn step(line: &[u8]) -> usize {
+    if may_fail(line) {
+        say_status(command(rest(line, 1), OUT));
+        return DONE;
+    }
+    command(line, OUT)
+}
+
+// The status, or trouble if something that was printed is lost.
+pub(crate) fn seen(status: usize) -> usize {
+    if lost(ERR) {
+        return TROUBLE;
+    }
+    status
 }
 
 // The line as it stands; `> ` before it, if it is a command.
@@ -52,20 +63,20 @@ fn say_line(line: &[u8]) {
     say(OUT, b"\n");
 }
 
-fn turn(line: &mut [u8], store: &mut [u8], buf: &mut [u8]) -> usize {
+fn turn(line: &mut [u8]) -> usize {
     say_line(line);
     blanked(line);
     if is_empty(line) {
         return DONE;
     }
-    step(line, store, buf)
+    seen(step(line))
 }
 
-fn turns(script: &mut [u8], store: &mut [u8], buf: &mut [u8]) -> usize {
+fn turns(script: &mut [u8]) -> usize {
     let mut at = 0;
     while at < script.len() {
         let end = find(script, at, b'\n');
-        let status = turn(&mut script[at..end], store, buf);
+        let status = turn(&mut script[at..end]);
         if status != DONE {
             return status;
         }
@@ -74,19 +85,19 @@ fn turns(script: &mut [u8], store: &mut [u8], buf: &mut [u8]) -> usize {
     DONE
 }
 
-fn run(path: &[u8], script: &mut [u8], store: &mut [u8], buf: &mut [u8]) -> usize {
+fn run(path: &[u8], script: &mut [u8]) -> usize {
     let Loaded::Whole(n) = load(path, script, ERR) else {
         return TROUBLE;
     };
     let e = within(n, script);
-    turns(&mut script[..e], store, buf)
+    turns(&mut script[..e])
 }
 
 // Does what the arguments ask, and answers the status.
-pub(crate) fn done(line: &[u8], store: &mut [u8], buf: &mut [u8]) -> usize {
+pub(crate) fn done(line: &[u8]) -> usize {
     if is(word(line, 0), b"run") && has(line, 2) {
         let mut script = [0u8; 65_536];
-        return run(word(line, 1), &mut script, store, buf);
+        return run(word(line, 1), &mut script);
     }
-    command(line, store, buf, ERR)
+    seen(command(line, ERR))
 }

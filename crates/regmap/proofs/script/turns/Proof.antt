@@ -6,10 +6,10 @@ use Rattle.regmap.proofs.script.turns.Statement.{statement}
 use Rattle.regmap.proofs.script.turns.Tie as tie
 
 abbrev Inv-loop : tie.InvT-loop
-Inv-loop script₀ store₀ buf₀ at₀ script store buf at = (length script ≡ length script₀) × (length store ≡ length store₀) × (length buf ≡ length buf₀)
+Inv-loop script₀ at₀ script at = length script ≡ length script₀
 
 abbrev μ-loop : tie.MeasureT-loop
-μ-loop script₀ store₀ buf₀ at₀ script store buf at = length script - at
+μ-loop script₀ at₀ script at = length script - at
 
 loop-holds : tie.Need-loop-holds Inv-loop μ-loop
 loop-holds c = search needs
@@ -32,12 +32,6 @@ turn-requires c κs = search needs
 same-length : tie.Need-same-length Inv-loop μ-loop
 same-length c = search needs
 
-same-length-2 : tie.Need-same-length-2 Inv-loop μ-loop
-same-length-2 c = search needs
-
-same-length-3 : tie.Need-same-length-3 Inv-loop μ-loop
-same-length-3 c = search needs
-
 returns : tie.Need-returns Inv-loop μ-loop
 returns c = search needs
 
@@ -50,14 +44,8 @@ loop-less c = search needs
 loop-again : tie.Need-loop-again Inv-loop μ-loop
 loop-again c = search needs
 
-same-length-4 : tie.Need-same-length-4 Inv-loop μ-loop
-same-length-4 c = search needs
-
-same-length-5 : tie.Need-same-length-5 Inv-loop μ-loop
-same-length-5 c = search needs
-
-same-length-6 : tie.Need-same-length-6 Inv-loop μ-loop
-same-length-6 c = search needs
+same-length-2 : tie.Need-same-length-2 Inv-loop μ-loop
+same-length-2 c = search needs
 
 returns-2 : tie.Need-returns-2 Inv-loop μ-loop
 returns-2 c = search needs
@@ -75,13 +63,9 @@ turns-spec =
     part-turn-end
     turn-requires
     same-length
-    same-length-2
-    same-length-3
     returns
     add-at
     loop-less
     loop-again
-    same-length-4
-    same-length-5
-    same-length-6
+    same-length-2
     returns-2)

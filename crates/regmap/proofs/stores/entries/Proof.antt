@@ -3,10 +3,10 @@ use Rattle.regmap.proofs.stores.entries.Statement.{statement}
 use Rattle.regmap.proofs.stores.entries.Tie as tie
 
 abbrev Inv-loop : tie.InvT-loop
-Inv-loop store place₀ left₀ place left = Unit {0}
+Inv-loop store json place₀ left₀ place left = Unit {0}
 
 abbrev μ-loop : tie.MeasureT-loop
-μ-loop store place₀ left₀ place left = left
+μ-loop store json place₀ left₀ place left = left
 
 first-place-requires : tie.Need-first-place-requires Inv-loop μ-loop
 first-place-requires c κs = search needs

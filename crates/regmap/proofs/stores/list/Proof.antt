@@ -6,18 +6,18 @@ use Rattle.regmap.proofs.stores.list.Tie as tie
 judge-requires : tie.Need-judge-requires
 judge-requires c κs = search needs
 
-refuse-requires : tie.Need-refuse-requires
-refuse-requires c κs = search needs
+no-list-requires : tie.Need-no-list-requires
+no-list-requires c κs = search needs
 
 returns : tie.Need-returns
 returns c = search needs
 
-entries-requires : tie.Need-entries-requires
-entries-requires c κs =
+listed-requires : tie.Need-listed-requires
+listed-requires c κs =
     decides-yes (c .before .judge .result) (c .if1 .left) (c .before .judge .ensures)
 
 returns-2 : tie.Need-returns-2
 returns-2 c = search needs
 
 pub list-spec : {M : Type 1} → statement M
-list-spec = tie.close (tie.spec judge-requires refuse-requires returns entries-requires returns-2)
+list-spec = tie.close (tie.spec judge-requires no-list-requires returns listed-requires returns-2)
