@@ -50,7 +50,9 @@ enum dampcandle_number {
   DAMPCANDLE_ABSENT = 7,       /* get, modify, delete: no such key; first_entry, next_entry: no such entry */
   DAMPCANDLE_BAD_CAPACITY = 8, /* create: capacity 0 or above 1,024, or the length is not 8 + 150 x capacity */
   DAMPCANDLE_MALFORMED = 9,    /* rebuild: the bytes are not exactly one witness */
-  DAMPCANDLE_LONG_MESSAGE = 10 /* hash: the message is longer than 65,536 bytes */
+  DAMPCANDLE_LONG_MESSAGE = 10, /* hash: the message is longer than 65,536 bytes */
+  DAMPCANDLE_ILL_FORMED = 11,  /* lookup: the witness breaks the Interface Specification's rule for well-formed trees */
+  DAMPCANDLE_UNLIKE = 15       /* merge: the two are not witnesses of one release */
 };
 
 enum dampcandle_limit {
@@ -137,6 +139,33 @@ size_t dampcandle_keys_with_prefix(const uint8_t *store, size_t store_length, co
 /* The digest of the tree that a witness holds: to be compared with the root digest. 0 or 9. */
 size_t dampcandle_rebuild(const uint8_t *witness, size_t witness_length, uint8_t digest[32]);
 
+/* What lookup answers. None is 0, so that a forgotten test of the number meets no answer. */
+enum dampcandle_result {
+  DAMPCANDLE_RESULT_FOUND = 1,  /* the key is labelled; its child's written form, head and all, lies at child_at and has child_length bytes */
+  DAMPCANDLE_RESULT_ABSENT = 2, /* no register has this name */
+  DAMPCANDLE_RESULT_UNKNOWN = 3 /* the witness does not say: something is hidden where the key would stand */
+};
+
+/* What a witness says of one key: the lookup of the Internet Computer Interface Specification. 0, 2, 9 or 11. Nothing is hashed: an answer is
+ * worth something only after dampcandle_rebuild gave the digest of the silicon record. child_at and child_length are 0 unless it is found; a
+ * child 60 .. is a Leaf, 2 bytes of head and then the value, and 80 20 .. a Pruned, the value's digest. */
+size_t dampcandle_lookup(const uint8_t *witness, size_t witness_length, const uint8_t *key, size_t key_length, size_t *result,
+                         size_t *child_at, size_t *child_length);
+
+/* Two witnesses of one release in one that shows what either shows. 0, 9, 15 or 6. The inputs may be one buffer; the output overlaps neither. */
+size_t dampcandle_merge(const uint8_t *one, size_t one_length, const uint8_t *other, size_t other_length, uint8_t *out, size_t out_length,
+                        size_t *length);
+
+/* ---- rebuild in parts, for a witness that comes over a slow link. The state is plain bytes: it may be copied and kept, and means nothing before
+ * it is begun. part answers 9 as soon as no witness can begin with the bytes so far, and from then on; else 0. end answers what rebuild
+ * answers for all the bytes so far; it may be asked at any time, and parts may follow. */
+
+#define DAMPCANDLE_PARTS 3157
+
+void dampcandle_rebuild_begin(uint8_t state[DAMPCANDLE_PARTS]);
+size_t dampcandle_rebuild_part(uint8_t state[DAMPCANDLE_PARTS], const uint8_t *bytes, size_t bytes_length);
+size_t dampcandle_rebuild_end(const uint8_t state[DAMPCANDLE_PARTS], uint8_t digest[32]);
+
 /* The SHA-256 of a message. 0 or 10. */
 size_t dampcandle_hash(const uint8_t *message, size_t message_length, uint8_t digest[32]);
 
@@ -176,6 +205,8 @@ static inline const char *dampcandle_text(size_t number) {
     case DAMPCANDLE_BAD_CAPACITY: return "the capacity or the length is not one of a store";
     case DAMPCANDLE_MALFORMED: return "the bytes are not exactly one witness";
     case DAMPCANDLE_LONG_MESSAGE: return "the message is longer than 65,536 bytes";
+    case DAMPCANDLE_ILL_FORMED: return "the witness is not well-formed";
+    case DAMPCANDLE_UNLIKE: return "these are not two witnesses of one release";
     default: return "a number that this header does not know";
   }
 }
