@@ -44,7 +44,7 @@ enum dampcandle_number {
   DAMPCANDLE_NOT_SOUND = 1,    /* the store is not sound */
   DAMPCANDLE_LONG_KEY = 2,     /* a key or a prefix is longer than 48 bytes */
   DAMPCANDLE_LONG_VALUE = 3,   /* a value is longer than 64 bytes */
-  DAMPCANDLE_REVERSED = 4,     /* first is above last */
+  DAMPCANDLE_REVERSED = 4,     /* first is above last, and two keys or more lie from last to first */
   DAMPCANDLE_FULL = 5,         /* insert of an absent key, and no slot is free */
   DAMPCANDLE_NO_ROOM = 6,      /* the output is shorter than the witness */
   DAMPCANDLE_ABSENT = 7,       /* get, modify, delete: no such key; first_entry, next_entry: no such entry */
@@ -198,7 +198,7 @@ static inline const char *dampcandle_text(size_t number) {
     case DAMPCANDLE_NOT_SOUND: return "the store is not sound";
     case DAMPCANDLE_LONG_KEY: return "a key is longer than 48 bytes";
     case DAMPCANDLE_LONG_VALUE: return "a value is longer than 64 bytes";
-    case DAMPCANDLE_REVERSED: return "first is above last";
+    case DAMPCANDLE_REVERSED: return "first is above last, and two keys or more lie between them";
     case DAMPCANDLE_FULL: return "no slot is free";
     case DAMPCANDLE_NO_ROOM: return "the output is shorter than the witness";
     case DAMPCANDLE_ABSENT: return "there is no such key or entry";

@@ -137,6 +137,7 @@ static void witnesses(void) {
   rebuilds(dampcandle_keys(store, LENGTH, out, ROOM, &length), "keys");
   rebuilds(dampcandle_key_range(store, LENGTH, BYTES("uart.d"), BYTES("uart.e"), out, ROOM, &length), "key_range uart.d to uart.e");
   rebuilds(dampcandle_value_range(store, LENGTH, BYTES("uart.d"), BYTES("uart.e"), out, ROOM, &length), "value_range uart.d to uart.e");
+  rebuilds(dampcandle_key_range(store, LENGTH, BYTES("uart.f"), BYTES("uart.e"), out, ROOM, &length), "key_range uart.f to uart.e, a gap");
   rebuilds(dampcandle_keys_with_prefix(store, LENGTH, BYTES("uart.s"), out, ROOM, &length), "keys_with_prefix uart.s");
 
   struct dampcandle_digest root = dampcandle_root_hash_value(store, LENGTH);
@@ -163,7 +164,7 @@ static void refusals(void) {
   refused(7, dampcandle_modify(store, LENGTH, long_key, 48, long_value, 64), "modify, absent key");
   refused(7, dampcandle_delete(store, LENGTH, BYTES("uart.fifo")), "delete, absent key");
   refused(7, dampcandle_get(store, LENGTH, BYTES("uart.fifo"), places, places + 1, places + 2, places + 3), "get, absent key");
-  refused(4, dampcandle_key_range(store, LENGTH, BYTES("b"), BYTES("a"), out, ROOM, &length), "key_range, first above last");
+  refused(4, dampcandle_key_range(store, LENGTH, BYTES("uart.z"), BYTES("a"), out, ROOM, &length), "key_range, first above last");
   refused(6, dampcandle_keys(store, LENGTH, out, 10, &length), "keys, output of 10 bytes");
   refused(8, dampcandle_create(store, LENGTH - 1, CAPACITY), "create, a byte short");
   refused(8, dampcandle_create(store, LENGTH, UINT64_MAX), "create, capacity 2^64 - 1");

@@ -52,6 +52,13 @@ fn upto(word: &str, most: usize) -> Option<usize> {
     number(word).filter(|n| *n <= most as u64).map(|n| n as usize)
 }
 
+/// First is above last, both bounds exist, and the low one is above the high one.
+pub fn crossed(store: &Store, first: &[u8], last: &[u8]) -> bool {
+    let low = store.slots.keys().filter(|k| k.as_slice() <= first).max();
+    let high = store.slots.keys().filter(|k| k.as_slice() >= last).min();
+    first > last && low.is_some() && high.is_some() && low > high
+}
+
 impl Calls {
     pub fn new() -> Calls {
         Calls { bytes: vec![], store: None, ahead: false, room: 0, parts: Parts::default() }
@@ -143,7 +150,7 @@ impl Calls {
         let room = self.room;
         let number = match self.ready(keys, &[]) {
             Err(n) => n,
-            Ok(_) if range && keys[0] > keys[1] => 4,
+            Ok(store) if range && crossed(store, keys[0], keys[1]) => 4,
             Ok(store) => {
                 let mut out = vec![];
                 make(store).root.write(&mut out);

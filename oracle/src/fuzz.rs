@@ -1,6 +1,6 @@
 //! Scripts for `calls` in which any bytes may arrive: stores random or damaged, keys and values of every length, outputs about the
 //! witness's length, witnesses random or damaged, lines that are none. After each call stands `sum`, so that a change shows.
-use crate::calls::hex;
+use crate::calls::{crossed, hex};
 use crate::hash_tree::{empty, fork, labeled, leaf, pruned, HashTree, HashTreeNode};
 use crate::lies::damaged;
 use crate::rb_tree::AsHashTree;
@@ -170,10 +170,10 @@ fn witness(r: &mut Random, store: &Store) -> Vec<u8> {
 /// A witness call, and an output about as long as what a sound store answers.
 fn shown(r: &mut Random, store: &Store) -> [String; 2] {
     let (mut a, mut b) = (key(r, store), key(r, store));
-    if a > b && !r.chance(6) {
+    if a > b && !r.chance(2) {
         (a, b) = (b, a);
     }
-    let lawful = a.len() <= 48 && b.len() <= 48 && a <= b;
+    let lawful = a.len() <= 48 && b.len() <= 48 && !crossed(store, &a, &b);
     let call = r.below(6);
     let tree = match call {
         0 => store.map.as_hash_tree(),

@@ -88,7 +88,7 @@ fn query(r: &mut Random, keys: &mut Keys) -> String {
         7 => format!("witness {}", hex(&a)),
         8 | 9 | 10 | 11 => {
             let b = keys.any(r);
-            let (a, b) = if a > b && !r.chance(8) { (b, a) } else { (a, b) };
+            let (a, b) = if a > b && !r.chance(2) { (b, a) } else { (a, b) };
             format!("{} {} {}", ["krange", "vrange"][r.below(2)], hex(&a), hex(&b))
         }
         12 => format!("prefix {}", hex(&a[..r.below(a.len() + 1)])),

@@ -9,12 +9,12 @@ use borrow.Author.Tests.{lt-ltb, le-ltb}
 use Rattle.key_order.specs.Order.{Key}
 use Rattle.hash_tree.specs.HashTree.{HashTree}
 use Rattle.llrb.specs.Tree.{Tree}
-use Rattle.store.specs.Numbers.{Refusal, NotSound, LongKey, Reversed, numberOf, Outcome, refused}
+use Rattle.store.specs.Numbers.{Refusal, NotSound, LongKey, numberOf, Outcome, refused}
 use Rattle.store.specs.Model.{Model}
 use Rattle.store.specs.Sound.{Sound}
 use Rattle.store.specs.Decide.{onSound}
 use Rattle.store.specs.Answers.{written, fitting}
-use Rattle.store.specs.Calls.{reversed, ofKey, ofRange, witnessed}
+use Rattle.store.specs.Calls.{ofKey, ofRange, witnessed}
 use Rattle.store.proofs.Decoding.{on-sound}
 use Rattle.answers.specs.declared.Saved.{Saved}
 use Rattle.witness.specs.Saving.{answered}
@@ -44,10 +44,3 @@ module _ (s out : List ℕ) where
       unfolding ofRange
       last-long p q =
           refuses (ofRange make k l) LongKey (on-sound (a .1) (ofRange make k l) (refused NotSound) ∙ (rw (le-ltb 48 (length k) p, lt-ltb 48 (length l) q)))
-
-      pub range-reversed : length k ≤ 48 → length l ≤ 48 → {b : Bool} → b ≡ reversed k l → b ≡ true → {z : Saved} → z ≡ unwritten 4
-          → answered z out ≡ witnessed (ofRange make k l) s out
-      unfolding ofRange
-      range-reversed p q e t =
-          let h : reversed k l ≡ true = sym e ∙ t in
-          refuses (ofRange make k l) Reversed (on-sound (a .1) (ofRange make k l) (refused NotSound) ∙ (rw (le-ltb 48 (length k) p, le-ltb 48 (length l) q, h)))

@@ -10,12 +10,10 @@ use answers::LONG_VALUE;
 use answers::MAX_KEY;
 use answers::MAX_VALUE;
 use answers::NOT_SOUND;
-use answers::REVERSED;
 use answers::Saved;
 use answers::Told;
 use hash_tree::Rebuilt;
 use judge::judge;
-use key_order::below;
 use lookup::LookedUp;
 use parts::STATE;
 use rb_tree::Changed;
@@ -267,9 +265,6 @@ pub fn key_range(store: &[u8], first: &[u8], last: &[u8], out: &mut [u8]) -> Sav
     if MAX_KEY < last.len() {
         return refuse(LONG_KEY);
     }
-    if below(last, first) {
-        return refuse(REVERSED);
-    }
     witness::key_range(store, first, last, out)
 }
 
@@ -284,9 +279,6 @@ pub fn value_range(store: &[u8], first: &[u8], last: &[u8], out: &mut [u8]) -> S
     }
     if MAX_KEY < last.len() {
         return refuse(LONG_KEY);
-    }
-    if below(last, first) {
-        return refuse(REVERSED);
     }
     witness::value_range(store, first, last, out)
 }

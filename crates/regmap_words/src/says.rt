@@ -60,7 +60,7 @@ const MEANINGS: [u8; 692] =
     *b"(1) the store is not sound: its bytes are damaged, or are no store. Take a sound copy, or build it anew from its map.\0\
 (2) the name is longer than 48 bytes. Shorten it.\0\
 (3) the value is longer than 64 bytes. Shorten it.\0\
-(4) FIRST is above LAST in the order of names. Swap them.\0\
+(4) FIRST is above LAST, and two names or more lie from LAST to FIRST. Swap them.\0\
 (5) the store is full. Unset a register, or build it anew with a larger --capacity, at most 1024.\0\
 (6) the witness does not fit the output. Ask for less.\0\
 (7) there is no such register. regmap list shows the names.\0\

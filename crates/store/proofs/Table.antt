@@ -20,7 +20,7 @@ use Rattle.store.specs.Sound.{Represents}
 use Rattle.store.specs.Decode.{decode}
 use Rattle.store.specs.Decide.{represents?, onSound}
 use Rattle.store.specs.Answers.{told, counted, digested, found, changed, written, fitting}
-use Rattle.store.specs.Calls.{refuse, longKey, longValue, reversed, isNone, absent, noFreeSlot, entryOr, getIn, firstIn as firstEntryIn, nextIn, insertIn, modifyIn, deleteIn, ofKey, ofRange, witnessed, createAnswer, isEmptyAnswer, countAnswer, rootHashAnswer, getAnswer, firstEntryAnswer, nextEntryAnswer, insertAnswer, modifyAnswer, deleteAnswer, asHashTreeAnswer, keysAnswer, witnessAnswer, keysWithPrefixAnswer, keyRangeAnswer, valueRangeAnswer}
+use Rattle.store.specs.Calls.{refuse, longKey, longValue, crossedRange, isNone, absent, noFreeSlot, entryOr, getIn, firstIn as firstEntryIn, nextIn, insertIn, modifyIn, deleteIn, ofKey, ofRange, witnessed, createAnswer, isEmptyAnswer, countAnswer, rootHashAnswer, getAnswer, firstEntryAnswer, nextEntryAnswer, insertAnswer, modifyAnswer, deleteAnswer, asHashTreeAnswer, keysAnswer, witnessAnswer, keysWithPrefixAnswer, keyRangeAnswer, valueRangeAnswer}
 use Rattle.store.specs.Table.{Row, when, applies, firstIn, notSound, shorter, Table}
 use Rattle.store.proofs.Decoding.{on-sound, on-unsound, sound-decodes}
 
@@ -130,12 +130,12 @@ table s =
           (key-number out (longKey prefix) (keysWithPrefix prefix (m .tree)));
       keyRange = λ first last out.
           by-soundness s (ofRange keyRange first last) (numberIn out)
-          (when LongKey (longKey first || longKey last) ∷ when Reversed (reversed first last) ∷ shorter out (keyRange first last (m .tree)) ∷ []) refl refl
-          (range-number out (longKey first || longKey last) (reversed first last) (keyRange first last (m .tree)));
+          (when LongKey (longKey first || longKey last) ∷ when Reversed (crossedRange first last (m .tree)) ∷ shorter out (keyRange first last (m .tree)) ∷ []) refl refl
+          (range-number out (longKey first || longKey last) (crossedRange first last (m .tree)) (keyRange first last (m .tree)));
       valueRange = λ first last out.
           by-soundness s (ofRange valueRange first last) (numberIn out)
-          (when LongKey (longKey first || longKey last) ∷ when Reversed (reversed first last) ∷ shorter out (valueRange first last (m .tree)) ∷ []) refl refl
-          (range-number out (longKey first || longKey last) (reversed first last) (valueRange first last (m .tree)));
+          (when LongKey (longKey first || longKey last) ∷ when Reversed (crossedRange first last (m .tree)) ∷ shorter out (valueRange first last (m .tree)) ∷ []) refl refl
+          (range-number out (longKey first || longKey last) (crossedRange first last (m .tree)) (valueRange first last (m .tree)));
       create = λ capacity.
           create-number s (eqb capacity 0 || (ltb 1024 capacity || not (eqb (length s) (storeLength capacity)))) (fresh capacity);
     }

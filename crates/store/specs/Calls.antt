@@ -15,7 +15,8 @@ use Rattle.hash_tree.specs.HashTree.{HashTree}
 use Rattle.llrb.specs.Tree.{Value, Entry, Tree, entries, size, get}
 use Rattle.llrb.specs.Digests.{rootHash}
 use Rattle.llrb.specs.Iterate.{headOf, firstAbove}
-use Rattle.witness_trees.specs.Witness.{asHashTree, keys, keyRange, valueRange, keysWithPrefix, witness}
+use Rattle.witness_trees.specs.Witness.{lowerBound, upperBound, asHashTree, keys, keyRange, valueRange, keysWithPrefix, witness}
+use Rattle.witness_trees.specs.Rules.{crossed}
 use Rattle.store.specs.Numbers.{Refusal, NotSound, LongKey, LongValue, Reversed, Full, Absent, BadCapacity, Outcome, refused, done}
 use Rattle.store.specs.Model.{Model, fresh, inserted, modified, deleted}
 use Rattle.store.specs.Decide.{onSound}
@@ -37,6 +38,10 @@ longValue value = ltb maxValue (length value)
 -- first is above last
 abbrev pub reversed : (first last : Key) → Bool
 reversed first last = pick (cmp first last) false false true
+
+-- first is above last, both bounds exist, and the low one is above the high one
+abbrev pub crossedRange : (first last : Key) → Tree → Bool
+crossedRange first last t = reversed first last && crossed (lowerBound first t) (upperBound last t)
 
 abbrev pub isNone : {A : Type 0} → Option A → Bool
 isNone none = true
@@ -92,7 +97,7 @@ ofKey make key m = refuse (longKey key) LongKey (done (make key (m .tree)))
 unfoldable pub ofRange : (Key → Key → Tree → HashTree) → (first last : Key) → Model → Outcome HashTree
 ofRange make first last m =
     refuse (longKey first || longKey last) LongKey
-    (refuse (reversed first last) Reversed
+    (refuse (crossedRange first last (m .tree)) Reversed
     (done (make first last (m .tree))))
 
 -- ---- the calls

@@ -17,7 +17,7 @@ use Rattle.witness_trees.specs.Witness.{asHashTree, keys, keyRange, valueRange,
 use Rattle.store.specs.Numbers.{Refusal, NotSound, LongKey, LongValue, Reversed, Full, NoRoom, Absent, BadCapacity, numberOf}
 use Rattle.store.specs.Decode.{decode}
 use Rattle.store.specs.Decide.{onSound}
-use Rattle.store.specs.Calls.{longKey, longValue, reversed, isNone, absent, noFreeSlot, createAnswer, isEmptyAnswer, countAnswer, rootHashAnswer, getAnswer, firstEntryAnswer, nextEntryAnswer, insertAnswer, modifyAnswer, deleteAnswer, asHashTreeAnswer, keysAnswer, witnessAnswer, keysWithPrefixAnswer, keyRangeAnswer, valueRangeAnswer}
+use Rattle.store.specs.Calls.{longKey, longValue, crossedRange, isNone, absent, noFreeSlot, createAnswer, isEmptyAnswer, countAnswer, rootHashAnswer, getAnswer, firstEntryAnswer, nextEntryAnswer, insertAnswer, modifyAnswer, deleteAnswer, asHashTreeAnswer, keysAnswer, witnessAnswer, keysWithPrefixAnswer, keyRangeAnswer, valueRangeAnswer}
 
 -- a refusal, and whether what it is given for holds
 pub record Row : Type 0 where
@@ -75,10 +75,10 @@ pub record Table (s : List ℕ) : Type 0 where
       → keysWithPrefixAnswer prefix s out .number ≡ firstIn (notSound s ∷ when LongKey (longKey prefix) ∷ shorter out (keysWithPrefix prefix (decode s .tree)) ∷ [])
   pub keyRange : (first last : Key) (out : List ℕ)
       → keyRangeAnswer first last s out .number
-      ≡ firstIn (notSound s ∷ when LongKey (longKey first || longKey last) ∷ when Reversed (reversed first last) ∷ shorter out (keyRange first last (decode s .tree)) ∷ [])
+      ≡ firstIn (notSound s ∷ when LongKey (longKey first || longKey last) ∷ when Reversed (crossedRange first last (decode s .tree)) ∷ shorter out (keyRange first last (decode s .tree)) ∷ [])
   pub valueRange : (first last : Key) (out : List ℕ)
       → valueRangeAnswer first last s out .number
-      ≡ firstIn (notSound s ∷ when LongKey (longKey first || longKey last) ∷ when Reversed (reversed first last) ∷ shorter out (valueRange first last (decode s .tree)) ∷ [])
+      ≡ firstIn (notSound s ∷ when LongKey (longKey first || longKey last) ∷ when Reversed (crossedRange first last (decode s .tree)) ∷ shorter out (valueRange first last (decode s .tree)) ∷ [])
   -- create alone answers 8, and nothing else
   pub create : (capacity : ℕ)
       → createAnswer capacity s .number ≡ cond (eqb capacity 0 || (ltb 1024 capacity || not (eqb (length s) (storeLength capacity)))) (numberOf BadCapacity) 0

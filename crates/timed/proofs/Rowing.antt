@@ -52,15 +52,6 @@ by-values (suc (suc zero)) k l s out a b c d = absurd (c refl)
 by-values (suc (suc (suc zero))) k l s out a b c d = absurd (d refl)
 by-values (suc (suc (suc (suc op)))) k l s out a b c d = refl
 
--- either range, where both leave the output
-pub by-range : (op : ℕ) (k l : Key) (s out : List ℕ) → (op ≡ 0 → ⊥) → (op ≡ 1 → ⊥) → (op ≡ 2 → ⊥) → out ≡ keyRangeAnswer k l s out .output → out ≡ valueRangeAnswer k l s out .output
-    → out ≡ output op k l s out
-by-range zero k l s out a b c x y = absurd (a refl)
-by-range (suc zero) k l s out a b c x y = absurd (b refl)
-by-range (suc (suc zero)) k l s out a b c x y = absurd (c refl)
-by-range (suc (suc (suc zero))) k l s out a b c x y = x
-by-range (suc (suc (suc (suc op)))) k l s out a b c x y = y
-
 -- ---- a call for one more row
 
 module _ (op : ℕ) (keys : List ℕ) (k : ℕ) (values : List ℕ) (v i : ℕ) where

@@ -7,7 +7,6 @@ ghost use Prim.Native.Nat.{_≤_};
 ghost use lib.ListN.{length};
 ghost use Rattle.runs.specs.Runs.{Decides};
 ghost use Rattle.store.specs.Sound.{Sound};
-ghost use Rattle.store.specs.Calls.{reversed};
 ghost use Rattle.sha256.specs.Hash.{sha256};
 ghost use Rattle.hash_tree.specs.Whole.{rebuilt};
 ghost use Rattle.search.specs.Search.{answerOf};
@@ -128,16 +127,6 @@ fn found(place: Place) -> usize
     1
 }
 
-fn above(first: &[u8], last: &[u8]) -> bool
-    ensures { λ r. ⌜ r ≡ reversed (now (first .entry)) (now (last .entry)) ⌝ }
-{
-    match key_order::order(first, last) {
-        key_order::Ordering::Less => false,
-        key_order::Ordering::Equal => false,
-        key_order::Ordering::Greater => true,
-    }
-}
-
 // What is written goes to the front of the output; get writes nothing, and counts what it finds.
 fn read(op: usize, s: &[u8], first: &[u8], last: &[u8], out: &mut [u8]) -> usize
     requires { ⌜ Sound (now s) ⌝ }
@@ -153,9 +142,6 @@ fn read(op: usize, s: &[u8], first: &[u8], last: &[u8], out: &mut [u8]) -> usize
     }
     if op == WITNESS {
         witness::witness(s, first, out);
-        return 1;
-    }
-    if above(first, last) {
         return 1;
     }
     if op == KEY_RANGE {

@@ -1,7 +1,7 @@
 -- From the bytes that were put to what the calls answer on a sound store.
 use Prim.Native.Nat.{ℕ, _+_, _≤_, _<_}
 use mathlib.Core.Path.{_≡_, refl, sym, ap, subst, _∙_}
-use mathlib.Core.Bool.{false, true≢false}
+use mathlib.Core.Bool.{Bool, true, false, _&&_}
 use mathlib.Core.List.{List, _++_}
 use mathlib.Core.Option.{Option, none, some}
 use native.Mathlib.Omega.{arith}
@@ -18,7 +18,7 @@ use Rattle.slots.specs.Layout.{header, slot}
 use Rattle.llrb.specs.Tree.{Entry, Tree, nil, node, entries, get}
 use Rattle.llrb.specs.Sorted.{Sorted, Mem}
 use Rattle.llrb.proofs.Get.{get-find, find-some, find-none}
-use Rattle.store.specs.Numbers.{Outcome, refused, done, NotSound}
+use Rattle.store.specs.Numbers.{Outcome, refused, done, NotSound, Reversed}
 use Rattle.store.specs.Model.{Model}
 use Rattle.store.specs.Sound.{Represents, Sound}
 use Rattle.store.specs.Answers.{fitting}
@@ -26,10 +26,11 @@ use Rattle.store.specs.Calls.{reversed, ofKey, ofRange, witnessed, asHashTreeAn
 use Rattle.store.proofs.Decoding.{on-sound}
 use Rattle.witness_trees.specs.Shown.{threeWayFork}
 use Rattle.witness_trees.specs.Witness.{Form, keysOnly, values, KeyBound, Exact, Neighbor, at, lowerBound, upperBound, rightPrefixNeighbor, lastArm, fullWitnessTree, rangeWitness, lookupAndBuildWitness, orTree, asHashTree, keys, keyRange, valueRange, keysWithPrefix, witness}
-use Rattle.witness_trees.specs.Rules.{Le, InOrder}
+use Rattle.witness_trees.specs.Rules.{InOrder, crossed}
 use Rattle.witness_trees.proofs.Bounds.{lower-is, upper-is, past-is}
 use Rattle.witness_trees.proofs.Lists.{mem-in, lt-irr}
 use Rattle.witness_trees.proofs.Walks.{look-none}
+use Rattle.witness_trees.proofs.Reversed.{not-crossed, crossed-above}
 use Rattle.witness_trees.proofs.Calls.{Present, join-same, low-present, high-present, past-present, bounds-in-order, prefix-in-order}
 use Rattle.search.specs.Search.{Each, Stored, OfBound, EntryAt, Lies, foundSlot, boundSlot}
 use Rattle.search.specs.declared.Found.{Found}
@@ -51,7 +52,7 @@ use Rattle.witness_walks.proofs.Walking.{PlacedEnd, walk-full, walk-range, walk
 use Rattle.answers.specs.declared.Saved.{Saved}
 use Rattle.output.specs.Putting.{Puts}
 use Rattle.witness.specs.Putting.{Laid, bytesBelow}
-use Rattle.witness.specs.Saving.{answered, putFront, CanSave, Saves, BoundIn, CanRange}
+use Rattle.witness.specs.Saving.{answered, putFront, CanSave, Saves, BoundIn, crossedIn, CanRange}
 
 -- ---- the front of the output
 
@@ -139,13 +140,13 @@ module _ {s : List ℕ} {m : Model} (rep : Represents s m) where
   pub full-bytes : (w : Form) → bytesBelow s (showing w) (Walked Full) tree ≡ write (fullWitnessTree threeWayFork lastArm w tree)
   full-bytes w = part-bytes (keyIn s) w tree (Walked Full) tt ∙ ap write (walk-full (keyIn s) w tree)
 
-  pub between-bytes : (first last : Key) (w : Form) → Le first last
+  pub between-bytes : (first last : Key) (w : Form) → InOrder (lowerBound first tree) (upperBound last tree)
       → bytesBelow s (showing w) (Walked (walkBetween (boundSlot (lowerBound first tree)) (boundSlot (upperBound last tree)))) tree
       ≡ write (rangeWitness threeWayFork lastArm (lowerBound first tree) (upperBound last tree) w tree)
   between-bytes first last w h =
       range-bytes (lowerBound first tree) (upperBound last tree) (low-each (Stored s) first tree stored) (high-each (Stored s) last tree stored)
       (low-present first (entries tree) (lowerBound first tree) (lower-is first tree ordered)) (high-present last (entries tree) (upperBound last tree) (upper-is last tree ordered))
-      (bounds-in-order first last tree ordered h) w
+      h w
 
   pub prefix-bytes : (prefix : Key)
       → bytesBelow s (showing keysOnly) (Walked (walkBetween (boundSlot (lowerBound prefix tree)) (boundSlot (rightPrefixNeighbor prefix tree)))) tree
@@ -185,13 +186,18 @@ module _ {s : List ℕ} {m : Model} (rep : Represents s m) where
 
 -- ---- in the order of the code
 
-le-of : (first last : Key) → reversed first last ≡ false → Le first last
-le-of first last h q = true≢false (rw (lt-gt last first q) at h)
+module _ (first last : Key) (k : length first ≤ 48) (l : length last ≤ 48) (m : Model) (make : Key → Key → Tree → HashTree) where
+  ranged : crossed (lowerBound first (m .tree)) (upperBound last (m .tree)) ≡ false → ofRange make first last m ≡ done (make first last (m .tree))
+  unfolding ofRange
+  ranged h = rw (le-ltb 48 (length first) k, le-ltb 48 (length last) l, h, no-and (reversed first last))
+    where
+      no-and : (v : Bool) → (v && false) ≡ false
+      no-and true = refl
+      no-and false = refl
 
-ranged : (first last : Key) → length first ≤ 48 → length last ≤ 48 → reversed first last ≡ false → (m : Model) (make : Key → Key → Tree → HashTree)
-    → ofRange make first last m ≡ done (make first last (m .tree))
-unfolding ofRange
-ranged first last k l h m make = rw (le-ltb 48 (length first) k, le-ltb 48 (length last) l, h)
+  crossing : Sorted (entries (m .tree)) → crossed (lowerBound first (m .tree)) (upperBound last (m .tree)) ≡ true → ofRange make first last m ≡ refused Reversed
+  unfolding ofRange
+  crossing s h = rw (le-ltb 48 (length first) k, le-ltb 48 (length last) l, lt-gt last first (crossed-above first last (m .tree) s h), h)
 
 -- the bounds of a range are those of its walk
 pub bounds-in : (s : List ℕ) (lo hi : Bound) → BoundIn s lo → BoundIn s hi → BoundsIn s (walkBetween lo hi)
@@ -233,23 +239,58 @@ module _ {s : List ℕ} (p : Sound s) {x : ℕ} (ex : x ≡ header s .root) wher
   pub can-range : (lo hi : Bound) → BoundIn s lo → BoundIn s hi → CanRange s x lo hi
   can-range lo hi a b = (map, at-hand, a, b)
 
+  module _ {lo hi : Bound} (first last : Key) (a : (t : Tree) → Lies s x t → lo ≡ boundSlot (lowerBound first t)) (b : (t : Tree) → Lies s x t → hi ≡ boundSlot (upperBound last t)) where
+    -- the bounds as they lie in the store are crossed where those of the map are
+    crossed-is : crossedIn s lo hi ≡ crossed (lowerBound first map) (upperBound last map)
+    crossed-is =
+        rw (a map (at-hand .lies), b map (at-hand .lies))
+        (on (lowerBound first map) (upperBound last map) (low-each (Stored s) first map (all-stored map (at-hand .lies))) (high-each (Stored s) last map (all-stored map (at-hand .lies))))
+      where
+        on : (lo hi : Option KeyBound) → OfBound (Stored s) lo → OfBound (Stored s) hi → crossedIn s (boundSlot lo) (boundSlot hi) ≡ crossed lo hi
+        on none none g h = refl
+        on none (some hi) g h = refl
+        on (some lo) none g h = refl
+        on (some lo) (some hi) g h = rw (placed (p .1) (some lo) g, placed (p .1) (some hi) h)
+
+    module _ (k : length first ≤ 48) (l : length last ≤ 48) {v : Bool} (e : v ≡ crossedIn s lo hi) where
+      open-bounds : v ≡ false → crossed (lowerBound first map) (upperBound last map) ≡ false
+      open-bounds h = sym crossed-is ∙ sym e ∙ h
+
+      -- 4, and no byte changes
+      crossed-answer : (o : List ℕ) (make : Key → Key → Tree → HashTree) → v ≡ true → answered (record { number = 4; size = 0 }) o ≡ witnessed (ofRange make first last) s o
+      unfolding witnessed fitting
+      crossed-answer o make h =
+          rw (on-sound (p .1) (ofRange make first last) (refused NotSound), crossing first last k l (p .0) make (p .1 .lawful .ordered) (sym crossed-is ∙ sym e ∙ h))
+
+      pub key-range-crossed : (o : List ℕ) → v ≡ true → answered (record { number = 4; size = 0 }) o ≡ keyRangeAnswer first last s o
+      unfolding keyRangeAnswer
+      key-range-crossed o h = crossed-answer o keyRange h
+
+      pub value-range-crossed : (o : List ℕ) → v ≡ true → answered (record { number = 4; size = 0 }) o ≡ valueRangeAnswer first last s o
+      unfolding valueRangeAnswer
+      value-range-crossed o h = crossed-answer o valueRange h
+
   module _ (o : List ℕ) {o′ : List ℕ} {r : Saved} {lo hi : Bound} where
     module _ (first last : Key) (a : (t : Tree) → Lies s x t → lo ≡ boundSlot (lowerBound first t)) (b : (t : Tree) → Lies s x t → hi ≡ boundSlot (upperBound last t)) where
-      range-saved : (w : Form) → Le first last → Saves s x (walkBetween lo hi) (showing w) o o′ r
+      range-saved : (w : Form) → InOrder (lowerBound first map) (upperBound last map) → Saves s x (walkBetween lo hi) (showing w) o o′ r
           → answered r o′ ≡ putFront o (write (rangeWitness threeWayFork lastArm (lowerBound first map) (upperBound last map) w map))
       range-saved w h v =
           v map at-hand ∙ ap (putFront o)
           (ap (λ (y : Walk). bytesBelow s (showing w) (Walked y) map) (ap (λ (y : Bound). walkBetween y hi) (a map (at-hand .lies)) ∙ ap (walkBetween (boundSlot (lowerBound first map))) (b map (at-hand .lies)))
           ∙ between-bytes (p .1) first last w h)
 
-      module _ (k : length first ≤ 48) (l : length last ≤ 48) (h : reversed first last ≡ false) where
+      module _ (k : length first ≤ 48) (l : length last ≤ 48) {v : Bool} (e : v ≡ crossedIn s lo hi) (h : v ≡ false) where
         pub key-range-answer : Saves s x (walkBetween lo hi) Label o o′ r → answered r o′ ≡ keyRangeAnswer first last s o
         unfolding keyRangeAnswer keyRange
-        key-range-answer v = answer (p .1) o _ (ofRange keyRange first last) (keyRange first last map) (ranged first last k l h (p .0) keyRange) refl (range-saved keysOnly (le-of first last h) v)
+        key-range-answer v =
+            answer (p .1) o _ (ofRange keyRange first last) (keyRange first last map) (ranged first last k l (p .0) keyRange (open-bounds first last a b k l e h)) refl
+            (range-saved keysOnly (not-crossed (lowerBound first map) (upperBound last map) (open-bounds first last a b k l e h)) v)
 
         pub value-range-answer : Saves s x (walkBetween lo hi) Show o o′ r → answered r o′ ≡ valueRangeAnswer first last s o
         unfolding valueRangeAnswer valueRange
-        value-range-answer v = answer (p .1) o _ (ofRange valueRange first last) (valueRange first last map) (ranged first last k l h (p .0) valueRange) refl (range-saved values (le-of first last h) v)
+        value-range-answer v =
+            answer (p .1) o _ (ofRange valueRange first last) (valueRange first last map) (ranged first last k l (p .0) valueRange (open-bounds first last a b k l e h)) refl
+            (range-saved values (not-crossed (lowerBound first map) (upperBound last map) (open-bounds first last a b k l e h)) v)
 
     pub prefix-answer : (prefix : Key) → ((t : Tree) → Lies s x t → lo ≡ boundSlot (lowerBound prefix t)) → ((t : Tree) → Lies s x t → hi ≡ boundSlot (rightPrefixNeighbor prefix t))
         → length prefix ≤ 48 → Saves s x (walkBetween lo hi) Label o o′ r → answered r o′ ≡ keysWithPrefixAnswer prefix s o
@@ -266,7 +307,7 @@ module _ {s : List ℕ} (p : Sound s) {x : ℕ} (ex : x ≡ header s .root) wher
     unfolding witnessAnswer ofKey
     absent-answer key f a b k v =
         answer (p .1) o _ (ofKey witness key) (witness key map) (rw (le-ltb 48 (length key) k)) (ap write (absent-witness (p .1) key f))
-        (range-saved key key a b keysOnly (lt-irr key) v)
+        (range-saved key key a b keysOnly (bounds-in-order key key map (p .1 .lawful .ordered) (lt-irr key)) v)
 
   pub can-lookup : (key : Key) (i : ℕ) → foundSlot (get key map) ≡ found.At i → CanSave s x (Lookup i)
   can-lookup key i f = (map, at-hand, present-entry (p .1) key i f)

@@ -1,5 +1,6 @@
 // The witnesses of a store, written: first the room that a witness takes, then its records, parent first.
 use answers::NO_ROOM;
+use answers::REVERSED;
 use answers::Saved;
 use hash_tree::EMPTY;
 use hash_tree::FORK;
@@ -8,6 +9,8 @@ use hash_tree::LEAF;
 use hash_tree::PRUNED;
 use hash_tree::fork_hash;
 use hash_tree::leaf_hash;
+use key_order::Ordering;
+use key_order::order;
 use output::Room;
 use output::less;
 use output::put_head;
@@ -27,6 +30,7 @@ use witness_walks::Part;
 use witness_walks::Walk;
 use witness_walks::What;
 use witness_walks::records_at;
+use witness_walks::slot_of;
 ghost use mathlib.Core.Path.{_≡_};
 ghost use Prim.Native.Nat.{_+_, _≤_};
 ghost use lib.ListN.{length};
@@ -37,10 +41,9 @@ ghost use Rattle.witness_walks.specs.InStore.{entryIn, shownIn, middleIn, Middl
 ghost use Rattle.output.specs.Putting.{Puts};
 ghost use Rattle.witness.specs.Putting.{CanFit, Fits, CanWrite, Writes};
 ghost use Rattle.answers.specs.Answers.{answered};
-ghost use Rattle.witness.specs.Saving.{Saves, CanSave, CanRange};
-ghost use mathlib.Core.Bool.{false};
+ghost use Rattle.witness.specs.Saving.{Saves, CanSave, BoundIn, crossedIn, CanRange};
 ghost use Rattle.store.specs.Sound.{Sound};
-ghost use Rattle.store.specs.Calls.{reversed, asHashTreeAnswer, keysAnswer, witnessAnswer, keyRangeAnswer, valueRangeAnswer, keysWithPrefixAnswer};
+ghost use Rattle.store.specs.Calls.{asHashTreeAnswer, keysAnswer, witnessAnswer, keyRangeAnswer, valueRangeAnswer, keysWithPrefixAnswer};
 ghost use Rattle.witness_walks.specs.Bounds.{walkBetween};
 
 // A Fork's head, if the node has one.
@@ -232,6 +235,25 @@ fn range_walk(left: Bound, right: Bound) -> Walk
     Walk::Between(lo, hi)
 }
 
+// What the Rust asserts not to be: both bounds exist, and the low one is above the high one.
+fn crossed(s: &[u8], left: Bound, right: Bound) -> bool
+    requires { ⌜ BoundIn (now s) left ⌝ }
+    requires { ⌜ BoundIn (now s) right ⌝ }
+    ensures { λ r. ⌜ r ≡ crossedIn (now (s .entry)) left right ⌝ }
+{
+    let Bound::At(lo) = left else {
+        return false;
+    };
+    let Bound::At(hi) = right else {
+        return false;
+    };
+    match order(key(s, slot_of(lo)), key(s, slot_of(hi))) {
+        Ordering::Less => false,
+        Ordering::Equal => false,
+        Ordering::Greater => true,
+    }
+}
+
 fn range_witness(s: &[u8], root: usize, left: Bound, right: Bound, f: What, out: &mut [u8]) -> Saved
     requires { ⌜ CanRange (now s) root left right ⌝ }
     ensures { λ r. ⌜ Saves (now (s .entry)) root (walkBetween left right) f (now (out .entry)) (now (out .exit)) r ⌝ }
@@ -257,23 +279,35 @@ pub fn keys(s: &[u8], out: &mut [u8]) -> Saved
 
 pub fn key_range(s: &[u8], first: &[u8], last: &[u8], out: &mut [u8]) -> Saved
     requires { ⌜ Sound (now s) ⌝ }
-    requires { ⌜ (length (now first) ≤ 48) × (length (now last) ≤ 48) × (reversed (now first) (now last) ≡ false) ⌝ }
+    requires { ⌜ (length (now first) ≤ 48) × (length (now last) ≤ 48) ⌝ }
     ensures { λ r. ⌜ answered r (now (out .exit)) ≡ keyRangeAnswer (now (first .entry)) (now (last .entry)) (now (s .entry)) (now (out .entry)) ⌝ }
 {
     let root = header_of(s).root;
     let lo = lower_bound(s, root, first);
     let hi = upper_bound(s, root, last);
+    if crossed(s, lo, hi) {
+        return Saved {
+            number: REVERSED,
+            size: 0,
+        };
+    }
     range_witness(s, root, lo, hi, What::Label, out)
 }
 
 pub fn value_range(s: &[u8], first: &[u8], last: &[u8], out: &mut [u8]) -> Saved
     requires { ⌜ Sound (now s) ⌝ }
-    requires { ⌜ (length (now first) ≤ 48) × (length (now last) ≤ 48) × (reversed (now first) (now last) ≡ false) ⌝ }
+    requires { ⌜ (length (now first) ≤ 48) × (length (now last) ≤ 48) ⌝ }
     ensures { λ r. ⌜ answered r (now (out .exit)) ≡ valueRangeAnswer (now (first .entry)) (now (last .entry)) (now (s .entry)) (now (out .entry)) ⌝ }
 {
     let root = header_of(s).root;
     let lo = lower_bound(s, root, first);
     let hi = upper_bound(s, root, last);
+    if crossed(s, lo, hi) {
+        return Saved {
+            number: REVERSED,
+            size: 0,
+        };
+    }
     range_witness(s, root, lo, hi, What::Show, out)
 }
 

@@ -79,7 +79,7 @@ pub struct Records {
 // ---- bounds
 
 // `lo.as_ref()`, by its slot.
-fn slot_of(b: KeyBound) -> usize
+pub fn slot_of(b: KeyBound) -> usize
     ensures { λ r. ⌜ r ≡ slotOf b ⌝ }
 {
     match b {

@@ -2,17 +2,14 @@ use Prim.Native.Nat.{ℕ}
 use mathlib.Core.Path.{_≡_, refl, sym, ap, _∙_}
 use native.Mathlib.Omega.{arith}
 use Rattle.store.specs.Answers as answers
-use Rattle.store.specs.Calls.{keyRangeAnswer, valueRangeAnswer}
-use Rattle.register_map.proofs.Witnessing.{range-reversed}
 use Rattle.timed.specs.Rows.{one, counted, output}
-use Rattle.timed.proofs.Rowing.{by-one, by-values, by-range}
+use Rattle.timed.proofs.Rowing.{by-one, by-values}
 use borrow.Author.Needs.{needs}
 use Rattle.timed.proofs.read.Statement.{statement}
 use Rattle.timed.proofs.read.Tie as tie
 use Rattle.timed.proofs.read.Reads as reads
 use Rattle.timed.proofs.read.Lts as lts
 use Rattle.search.proofs.get_place.Reads as get-place-reads
-use Rattle.timed.proofs.above.Reads as above-reads
 use Rattle.timed.proofs.found.Reads as found-reads
 use Rattle.witness.proofs.as_hash_tree.Reads as as-hash-tree-reads
 use Rattle.witness.proofs.key_range.Reads as key-range-reads
@@ -53,39 +50,27 @@ returns-3 c =
     let e = ap (λ (x : answers.Written). x .output) (c .before .before .witness .ensures) in
     (by-one _ _ _ (c .before .before .before .before .before .before .if1 .left), omega arith, e ∙ ap (λ (o : ℕ). output o (c .before .before .before .before .before .before .before .before .before .before .before .args .first .now) (c .before .before .before .before .before .before .before .before .before .before .before .args .last .now) (c .before .before .before .before .before .before .before .before .before .before .before .args .s .now) (c .before .before .before .before .before .before .before .before .before .before .before .args .out .now)) (sym (c .before .before .before .before .if3 .taken)))
 
-above-requires : tie.Need-above-requires
-above-requires c κs = search needs
-
-returns-4 : tie.Need-returns-4
-unfolding keyRangeAnswer valueRangeAnswer
-returns-4 c =
-    let k : c .before .before .before .before .before .before .before .before .before .args .out .now ≡ keyRangeAnswer (c .before .before .before .before .before .before .before .before .before .args .first .now) (c .before .before .before .before .before .before .before .before .before .args .last .now) (c .before .before .before .before .before .before .before .before .before .args .s .now) (c .before .before .before .before .before .before .before .before .before .args .out .now) .output = ap (λ (x : answers.Written). x .output) (range-reversed _ _ (c .before .before .before .before .before .before .before .before .before .pre .0) _ _ _ (c .before .before .before .before .before .before .before .before .before .pre .1 .0) (c .before .before .before .before .before .before .before .before .before .pre .1 .1) (c .before .above .ensures) (c .if4 .taken) refl) in
-    let v : c .before .before .before .before .before .before .before .before .before .args .out .now ≡ valueRangeAnswer (c .before .before .before .before .before .before .before .before .before .args .first .now) (c .before .before .before .before .before .before .before .before .before .args .last .now) (c .before .before .before .before .before .before .before .before .before .args .s .now) (c .before .before .before .before .before .before .before .before .before .args .out .now) .output = ap (λ (x : answers.Written). x .output) (range-reversed _ _ (c .before .before .before .before .before .before .before .before .before .pre .0) _ _ _ (c .before .before .before .before .before .before .before .before .before .pre .1 .0) (c .before .before .before .before .before .before .before .before .before .pre .1 .1) (c .before .above .ensures) (c .if4 .taken) refl) in
-    (by-one _ _ _ (c .before .before .before .before .if1 .left), omega arith, by-range (c .before .before .before .before .before .before .before .before .before .args .op) _ _ _ _ (c .before .before .before .before .if1 .left) (c .before .before .before .if2 .left) (c .before .before .if3 .left) k v)
-
 key-range-requires : tie.Need-key-range-requires
-key-range-requires c κs =
-    (c .before .before .before .before .before .before .before .before .before .before .before .pre .0, (c .before .before .before .before .before .before .before .before .before .before .before .pre .1 .0, c .before .before .before .before .before .before .before .before .before .before .before .pre .1 .1, sym (c .before .before .before .above .ensures) ∙ c .before .before .if4 .left))
+key-range-requires c κs = (c .before .before .before .before .before .before .before .before .before .pre .0, c .before .before .before .before .before .before .before .before .before .pre .1)
 
 same-length-3 : tie.Need-same-length-3
 same-length-3 c = search needs
 
-returns-5 : tie.Need-returns-5
-returns-5 c =
+returns-4 : tie.Need-returns-4
+returns-4 c =
     let e = ap (λ (x : answers.Written). x .output) (c .before .before .key-range .ensures) in
-    (by-one _ _ _ (c .before .before .before .before .before .before .before .before .before .if1 .left), omega arith, e ∙ ap (λ (o : ℕ). output o (c .before .before .before .before .before .before .before .before .before .before .before .before .before .before .args .first .now) (c .before .before .before .before .before .before .before .before .before .before .before .before .before .before .args .last .now) (c .before .before .before .before .before .before .before .before .before .before .before .before .before .before .args .s .now) (c .before .before .before .before .before .before .before .before .before .before .before .before .before .before .args .out .now)) (sym (c .before .before .before .before .if5 .taken)))
+    (by-one _ _ _ (c .before .before .before .before .before .before .before .if1 .left), omega arith, e ∙ ap (λ (o : ℕ). output o (c .before .before .before .before .before .before .before .before .before .before .before .before .args .first .now) (c .before .before .before .before .before .before .before .before .before .before .before .before .args .last .now) (c .before .before .before .before .before .before .before .before .before .before .before .before .args .s .now) (c .before .before .before .before .before .before .before .before .before .before .before .before .args .out .now)) (sym (c .before .before .before .before .if4 .taken)))
 
 value-range-requires : tie.Need-value-range-requires
-value-range-requires c κs =
-    (c .before .before .before .before .before .before .before .before .before .before .before .pre .0, (c .before .before .before .before .before .before .before .before .before .before .before .pre .1 .0, c .before .before .before .before .before .before .before .before .before .before .before .pre .1 .1, sym (c .before .before .before .above .ensures) ∙ c .before .before .if4 .left))
+value-range-requires c κs = (c .before .before .before .before .before .before .before .before .before .pre .0, c .before .before .before .before .before .before .before .before .before .pre .1)
 
 same-length-4 : tie.Need-same-length-4
 same-length-4 c = search needs
 
-returns-6 : tie.Need-returns-6
-returns-6 c =
+returns-5 : tie.Need-returns-5
+returns-5 c =
     let e = ap (λ (x : answers.Written). x .output) (c .before .before .value-range .ensures) in
-    (by-one _ _ _ (c .before .before .before .before .before .before .before .before .before .if1 .left), omega arith, e ∙ by-values (c .before .before .before .before .before .before .before .before .before .before .before .before .before .before .args .op) _ _ _ _ (c .before .before .before .before .before .before .before .before .before .if1 .left) (c .before .before .before .before .before .before .before .before .if2 .left) (c .before .before .before .before .before .before .before .if3 .left) (c .before .before .before .before .if5 .left))
+    (by-one _ _ _ (c .before .before .before .before .before .before .before .if1 .left), omega arith, e ∙ by-values (c .before .before .before .before .before .before .before .before .before .before .before .before .args .op) _ _ _ _ (c .before .before .before .before .before .before .before .if1 .left) (c .before .before .before .before .before .before .if2 .left) (c .before .before .before .before .before .if3 .left) (c .before .before .before .before .if4 .left))
 
 pub read-spec : {M : Type 1} → statement M
 read-spec =
@@ -100,11 +85,9 @@ read-spec =
     witness-requires
     same-length-2
     returns-3
-    above-requires
-    returns-4
     key-range-requires
     same-length-3
-    returns-5
+    returns-4
     value-range-requires
     same-length-4
-    returns-6)
+    returns-5)
