@@ -56,7 +56,7 @@ pub fn usage(to: i32) {
 }
 
 // What the numbers of document 01 mean, and what to do. A zero byte parts them.
-const MEANINGS: [u8; 692] =
+const MEANINGS: [u8; 716] =
     *b"(1) the store is not sound: its bytes are damaged, or are no store. Take a sound copy, or build it anew from its map.\0\
 (2) the name is longer than 48 bytes. Shorten it.\0\
 (3) the value is longer than 64 bytes. Shorten it.\0\
