@@ -1,6 +1,5 @@
 -- What a C caller sees of a call: its number, and what it leaves in the things it was lent for its answer. With number 0 these hold
 -- the answer; with any other each is as it was.
--- Assumes nothing: these are definitions.
 use mathlib.Core.Bool.{Bool, cond}
 use mathlib.Core.List.{List}
 use Prim.Native.Nat.{ℕ}

@@ -1,6 +1,5 @@
 -- The definitions compute the trees that the Rust makes: shape, colour, slot, key and value after random histories.
 -- Printed by `oracle cases trees`: the Rust's rb_tree, unchanged, in a store whose freed slots are used again.
--- Assumes nothing.
 use mathlib.Core.Path.{_≡_, refl}
 use mathlib.Core.Bool.{true, false}
 use mathlib.Core.List.{List, [], _∷_}

@@ -1,6 +1,5 @@
 -- The definitions compute the witnesses and root digests that the Rust makes on random maps, first not above last.
 -- Printed by `oracle cases witnesses`; a digest is written as the term that it is the hash of.
--- Assumes nothing.
 use mathlib.Core.Path.{_≡_, refl}
 use mathlib.Core.Bool.{true, false}
 use mathlib.Core.List.{List, [], _∷_}

@@ -1,5 +1,4 @@
 -- The table of the starred examples holds. Digests stay shut: no example computes one.
--- Assumes nothing.
 use mathlib.Core.Path.{_≡_, refl, ap, sym, _∙_}
 use mathlib.Core.List.{List, [], _∷_, _++_}
 use Prim.Native.Nat.{ℕ, _≤_}

@@ -1,5 +1,4 @@
 -- THE STARRED EXAMPLES of document 01, in its order, as one table: each line is said of the public calls.
--- Assumes nothing: these are definitions.
 use mathlib.Core.Path.{_≡_}
 use mathlib.Core.Bool.{true, false}
 use mathlib.Core.List.{List, [], _∷_, _++_}

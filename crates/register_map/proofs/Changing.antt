@@ -1,5 +1,4 @@
 -- What insert, modify and delete have to answer, and the bytes that they have to leave, by the tests that their code makes.
--- Assumes nothing.
 use mathlib.Core.Path.{_≡_, refl, sym, ap, _∙_}
 use mathlib.Core.List.{List}
 use Prim.Native.Nat.{ℕ, _≤_, _<_}

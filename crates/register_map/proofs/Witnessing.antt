@@ -1,5 +1,4 @@
 -- What a witness call has to answer where a test of its code refuses it; once for all that it may make.
--- Assumes nothing.
 use mathlib.Core.Path.{_≡_, sym, ap, _∙_}
 use mathlib.Core.Bool.{Bool, true}
 use mathlib.Core.List.{List}

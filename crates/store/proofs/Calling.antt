@@ -1,5 +1,4 @@
 -- What a call comes to: why it is refused, or that it is done and on what grounds; each edit keeps a model lawful.
--- Assumes nothing.
 use mathlib.Core.Path.{_≡_, refl}
 use mathlib.Core.Bool.{Bool, true, false, _&&_}
 use mathlib.Core.Option.{Option, none, some}

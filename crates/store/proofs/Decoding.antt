@@ -1,5 +1,4 @@
 -- A store that holds a model decodes to it: so a store holds one model only, whether it is sound can be told, and `onSound` is what it says.
--- Assumes nothing.
 use mathlib.Core.Path.{_≡_, refl, sym, ap, subst, _∙_}
 use mathlib.Core.List.{List, [], _∷_, _++_}
 use Prim.Native.Nat.{ℕ, zero, suc, _+_, _≤_}

@@ -1,5 +1,4 @@
 -- DEMAND 3, proved of every history from a fresh store of any capacity.
--- Assumes nothing.
 use mathlib.Core.Path.{_≡_, refl, sym, ap, subst, _∙_}
 use mathlib.Core.Bool.{Bool, true, false}
 use mathlib.Core.List.{List, [], _∷_}

@@ -1,5 +1,4 @@
 -- The bytes of a lawful model hold it, and a store that holds a model is the model's bytes: encode and decode are each other's inverse.
--- Assumes nothing.
 use mathlib.Core.Path.{_≡_, sym, subst, _∙_}
 use mathlib.Core.Bool.{Bool, true, false, cond}
 use mathlib.Core.List.{List, [], _∷_, _++_}

@@ -1,5 +1,4 @@
 -- A refusal leaves all as found.
--- Assumes nothing.
 use mathlib.Core.Path.{_≡_, refl}
 use mathlib.Core.Bool.{Bool, false, not, _||_}
 use mathlib.Core.Logic.{_≢_}

@@ -1,6 +1,5 @@
 -- A new value for a present key: insert and modify come to the same, and slot by slot only that value and digests on the search path change.
 -- Also: where a new entry goes, and that the value already there changes no byte.
--- Assumes nothing.
 use mathlib.Core.Path.{_≡_, refl, sym, ap, subst, _∙_}
 use mathlib.Core.Bool.{Bool, true, false, cond}
 use mathlib.Core.Logic.{_≢_, inl, inr}

@@ -1,5 +1,4 @@
 -- After any history the store is the bytes of a lawful model: the one that the same history gives on models.
--- Assumes nothing.
 use mathlib.Core.Path.{_≡_, refl, sym, ap, subst, _∙_}
 use mathlib.Core.List.{List, [], _∷_}
 use mathlib.Core.Logic.{_≢_}

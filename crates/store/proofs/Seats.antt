@@ -1,5 +1,4 @@
 -- Which subtree stands at a slot; and a store seen slot by slot is the store seen along its tree and chain.
--- Assumes nothing.
 use mathlib.Core.Path.{_≡_, refl, sym, ap, _∙_}
 use mathlib.Core.Bool.{Bool, true, false}
 use mathlib.Core.Logic.{_≢_}

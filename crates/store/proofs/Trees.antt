@@ -1,5 +1,4 @@
 -- How often a slot stands in a tree, and how many nodes it has, node by node.
--- Assumes nothing.
 use mathlib.Core.Path.{_≡_, refl, ap, _∙_}
 use mathlib.Core.Bool.{Bool}
 use mathlib.Core.List.{List, [], _∷_, _++_}

@@ -1,5 +1,4 @@
 -- Every witness of a lawful model can be written, and its bytes rebuild to the root digest; and what a call puts into the output.
--- Assumes nothing.
 use mathlib.Core.Path.{_≡_, refl, ap, _∙_}
 use mathlib.Core.List.{List, [], _∷_, _++_}
 use Prim.Native.Nat.{ℕ, _≤_, _<_}

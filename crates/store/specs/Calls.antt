@@ -1,7 +1,6 @@
 -- THE PUBLIC CALLS of document 01, each one function of the bytes and arguments that it is given. First what a call makes of the model
 -- that a sound store holds, its refusals in the order 2, 3, 4, 7, 5, 6; then the call itself: 1 if the store is not sound, else that.
 -- `rebuild` and `hash` have no store; they stand in crates hash_tree and sha256.
--- Assumes nothing: these are definitions.
 use mathlib.Core.Bool.{Bool, true, false, not, _&&_, _||_}
 use mathlib.Core.List.{List}
 use mathlib.Core.Option.{Option, none, some}

@@ -1,5 +1,4 @@
 -- How often a number stands in a list, and the numbers 1 to n: "each slot exactly once" is said with these.
--- Assumes nothing: these are definitions.
 use mathlib.Core.Bool.{Bool, true, false}
 use mathlib.Core.List.{List, [], _∷_}
 use Prim.Native.Nat.{ℕ, zero, suc, _+_}

@@ -1,6 +1,5 @@
 -- Whether bytes hold a model can be told, so that a call's answer is a function of the bytes: `onSound s f z` is f of the model that
 -- s holds, and z where s is not sound.
--- Assumes nothing.
 use mathlib.Core.Path.{_≡_, refl, sym, ap, subst}
 use mathlib.Core.Bool.{Bool, true, false, true≢false}
 use mathlib.Core.List.{List, [], _∷_}

@@ -1,5 +1,4 @@
 -- Decisions put together from decisions.
--- Assumes nothing.
 use mathlib.Core.Path.{_≡_, refl, sym}
 use mathlib.Core.Bool.{Bool, true, false, true≢false}
 use mathlib.Core.Logic.{Dec·and}

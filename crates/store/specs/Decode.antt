@@ -1,6 +1,5 @@
 -- The model that bytes hold, if they hold one: the tree found by its links from the root, and the chain from its head.
 -- The number that falls is the live count, and the capacity: a sound store has no more nodes, and no longer chain.
--- Assumes nothing: these are definitions.
 use mathlib.Core.List.{List, [], _∷_}
 use Prim.Native.Nat.{ℕ, zero, suc}
 use Rattle.slots.specs.Layout.{header, slot, keyOf, valueOf}

@@ -1,5 +1,4 @@
 -- DEMANDS 1 AND 3 of the customer, and document 01's sentences on refusals and on histories: one field for each sentence.
--- Assumes nothing: these are definitions.
 use mathlib.Core.Path.{_≡_}
 use mathlib.Core.Bool.{false}
 use mathlib.Core.Logic.{_≢_}

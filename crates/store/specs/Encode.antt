@@ -1,5 +1,4 @@
 -- The bytes of a model: each slot of the store is a node's, or a free one.
--- Assumes nothing: these are definitions.
 use mathlib.Core.Bool.{cond}
 use mathlib.Core.List.{List, [], _∷_}
 use mathlib.Core.Option.{Option, none, some}

@@ -1,5 +1,4 @@
 -- Histories of a store: any list of inserts, modifies and deletes, refused ones included, from a fresh store. The last call stands first.
--- Assumes nothing: these are definitions.
 use mathlib.Core.Bool.{cond}
 use mathlib.Core.List.{List, [], _∷_}
 use mathlib.Core.Option.{Option, none, some}

@@ -1,6 +1,5 @@
 -- What a store holds: its capacity, the tree with a slot for each entry, and the free slots in the order of their chain;
 -- and what create, insert, modify and delete make of it (document 01, "Store layout").
--- Assumes nothing: these are definitions.
 use mathlib.Core.List.{List, [], _∷_, _++_}
 use mathlib.Core.Option.{Option, none, some, Option·map}
 use Prim.Native.Nat.{ℕ}

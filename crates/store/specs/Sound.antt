@@ -1,6 +1,5 @@
 -- When a store is sound (document 01, "A store is sound when"). Where a bit lies is said by crate slots: here a store is its
 -- length, its header, its slots and their digests. What a node, a tree's order and its colours are is said by crate llrb.
--- Assumes nothing: these are definitions.
 use mathlib.Core.Path.{_≡_}
 use mathlib.Core.List.{List, [], _∷_}
 use Prim.Native.Nat.{ℕ, _≤_}

@@ -1,6 +1,5 @@
 -- THE TABLE of document 01, "Numbers a call may answer": when each number is given, and the order where several apply.
 -- The calls of specs/Calls answer these numbers; here the order stands once, for all of them.
--- Assumes nothing: these are definitions.
 use mathlib.Core.Path.{_≡_}
 use mathlib.Core.Bool.{Bool, true, false, cond, not, _&&_, _||_}
 use mathlib.Core.List.{List, [], _∷_}

@@ -1,5 +1,4 @@
 -- Document 01's lines of soundness once more, each as a reader may want it; proved of every sound store in proofs/Reading.
--- Assumes nothing: these are definitions.
 use mathlib.Core.Path.{_≡_}
 use mathlib.Core.Bool.{true}
 use mathlib.Core.List.{List}

@@ -1,5 +1,4 @@
 -- What the tests of a byte tell of the digit that it is.
--- Assumes nothing.
 use mathlib.Core.Path.{_≡_, refl, sym}
 use mathlib.Core.Bool.{true, false, not, and-false}
 use Prim.Native.Nat.{ℕ, _+_, _-_, _%_, _≤_, _<_}

@@ -1,5 +1,4 @@
 -- Values, names, and names that stand for themselves: one law for each way that a word is read.
--- Assumes nothing.
 use mathlib.Core.Path.{_≡_, refl, sym, _∙_}
 use mathlib.Core.Bool.{Bool, true, false}
 use mathlib.Core.List.{List, [], _∷_}

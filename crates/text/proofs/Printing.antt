@@ -1,5 +1,4 @@
 -- The test whether every byte can be printed, as far as it has come.
--- Assumes nothing.
 use mathlib.Core.Path.{_≡_, refl, sym, _∙_}
 use mathlib.Core.Bool.{true, false}
 use mathlib.Core.List.{List}

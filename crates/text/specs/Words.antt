@@ -1,5 +1,4 @@
 -- Parts of a text, and the words of a line: parted by zero bytes, which stand for blanks.
--- Assumes nothing: these are definitions.
 use mathlib.Core.Bool.{Bool, true, false, cond, _||_}
 use mathlib.Core.List.{List, [], _∷_, _++_, map}
 use Prim.Native.Nat.{ℕ, zero, suc, _+_, _-_}

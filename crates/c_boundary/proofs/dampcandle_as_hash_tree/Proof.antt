@@ -8,19 +8,15 @@ use Rattle.c_boundary.proofs.dampcandle_as_hash_tree.Lts as lts
 use Rattle.c_boundary.proofs.put_length.Reads as put-length-reads
 use Rattle.register_map.proofs.as_hash_tree.Reads as as-hash-tree-reads
 
--- src/lib.rt:182:16
 as-hash-tree-requires : tie.Need-as-hash-tree-requires
 as-hash-tree-requires c κs = search needs
 
--- src/lib.rt:182:5
 put-length-requires : tie.Need-put-length-requires
 put-length-requires c κs = search needs
 
--- src/lib.rt:178:1
 same-length : tie.Need-same-length
 same-length c = search needs
 
--- src/lib.rt:178:1
 returns : tie.Need-returns
 returns c =
     c .put-length .ensures _ ∙ ap (writtenTo _) (c .before .before .before .before .as-hash-tree .ensures)

@@ -8,15 +8,12 @@ use Rattle.c_boundary.proofs.dampcandle_count.Lts as lts
 use Rattle.c_boundary.proofs.put_count.Reads as put-count-reads
 use Rattle.register_map.proofs.count.Reads as count-reads
 
--- src/lib.rt:91:15
 count-requires : tie.Need-count-requires
 count-requires c κs = search needs
 
--- src/lib.rt:91:5
 put-count-requires : tie.Need-put-count-requires
 put-count-requires c κs = search needs
 
--- src/lib.rt:87:1
 returns : tie.Need-returns
 returns c =
     c .put-count .ensures ∙ ap (countedTo _) (c .before .before .count .ensures)

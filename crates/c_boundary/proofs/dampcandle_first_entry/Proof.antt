@@ -8,15 +8,12 @@ use Rattle.c_boundary.proofs.dampcandle_first_entry.Lts as lts
 use Rattle.c_boundary.proofs.put_places.Reads as put-places-reads
 use Rattle.register_map.proofs.first_entry.Reads as first-entry-reads
 
--- src/lib.rt:134:9
 first-entry-requires : tie.Need-first-entry-requires
 first-entry-requires c κs = search needs
 
--- src/lib.rt:135:5
 put-places-requires : tie.Need-put-places-requires
 put-places-requires c κs = search needs
 
--- src/lib.rt:124:1
 returns : tie.Need-returns
 returns c =
     c .put-places .ensures ∙ ap (foundTo _ _ _ _) (c .before .before .before .before .before .first-entry .ensures)

@@ -8,15 +8,12 @@ use Rattle.c_boundary.proofs.dampcandle_get.Lts as lts
 use Rattle.c_boundary.proofs.put_places.Reads as put-places-reads
 use Rattle.register_map.proofs.get.Reads as get-reads
 
--- src/lib.rt:120:9
 get-requires : tie.Need-get-requires
 get-requires c κs = search needs
 
--- src/lib.rt:121:5
 put-places-requires : tie.Need-put-places-requires
 put-places-requires c κs = search needs
 
--- src/lib.rt:109:1
 returns : tie.Need-returns
 returns c =
     c .put-places .ensures ∙ ap (foundTo _ _ _ _) (c .before .before .before .before .before .get .ensures)

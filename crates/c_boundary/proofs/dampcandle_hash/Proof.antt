@@ -8,15 +8,12 @@ use Rattle.c_boundary.proofs.dampcandle_hash.Lts as lts
 use Rattle.c_boundary.proofs.put_digest.Reads as put-digest-reads
 use Rattle.register_map.proofs.hash.Reads as hash-reads
 
--- src/lib.rt:259:9
 hash-requires : tie.Need-hash-requires
 hash-requires c κs = search needs
 
--- src/lib.rt:261:5
 put-digest-requires : tie.Need-put-digest-requires
 put-digest-requires c κs = search needs
 
--- src/lib.rt:255:1
 returns : tie.Need-returns
 returns c =
     c .put-digest .ensures ∙ ap (digestedTo _) (ap hashedOf (c .before .before .before .hash .ensures))

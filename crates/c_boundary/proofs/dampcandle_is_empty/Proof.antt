@@ -8,15 +8,12 @@ use Rattle.c_boundary.proofs.dampcandle_is_empty.Lts as lts
 use Rattle.c_boundary.proofs.put_yes.Reads as put-yes-reads
 use Rattle.register_map.proofs.is_empty.Reads as is-empty-reads
 
--- src/lib.rt:84:13
 is-empty-requires : tie.Need-is-empty-requires
 is-empty-requires c κs = search needs
 
--- src/lib.rt:84:5
 put-yes-requires : tie.Need-put-yes-requires
 put-yes-requires c κs = search needs
 
--- src/lib.rt:80:1
 returns : tie.Need-returns
 returns c =
     c .put-yes .ensures ∙ ap (toldTo _) (c .before .before .is-empty .ensures)

@@ -8,19 +8,15 @@ use Rattle.c_boundary.proofs.dampcandle_key_range.Lts as lts
 use Rattle.c_boundary.proofs.put_length.Reads as put-length-reads
 use Rattle.register_map.proofs.key_range.Reads as key-range-reads
 
--- src/lib.rt:214:16
 key-range-requires : tie.Need-key-range-requires
 key-range-requires c κs = search needs
 
--- src/lib.rt:214:5
 put-length-requires : tie.Need-put-length-requires
 put-length-requires c κs = search needs
 
--- src/lib.rt:204:1
 same-length : tie.Need-same-length
 same-length c = search needs
 
--- src/lib.rt:204:1
 returns : tie.Need-returns
 returns c =
     c .put-length .ensures _ ∙ ap (writtenTo _) (c .before .before .before .before .key-range .ensures)

@@ -8,19 +8,15 @@ use Rattle.c_boundary.proofs.dampcandle_keys.Lts as lts
 use Rattle.c_boundary.proofs.put_length.Reads as put-length-reads
 use Rattle.register_map.proofs.keys.Reads as keys-reads
 
--- src/lib.rt:189:16
 keys-requires : tie.Need-keys-requires
 keys-requires c κs = search needs
 
--- src/lib.rt:189:5
 put-length-requires : tie.Need-put-length-requires
 put-length-requires c κs = search needs
 
--- src/lib.rt:185:1
 same-length : tie.Need-same-length
 same-length c = search needs
 
--- src/lib.rt:185:1
 returns : tie.Need-returns
 returns c =
     c .put-length .ensures _ ∙ ap (writtenTo _) (c .before .before .before .before .keys .ensures)

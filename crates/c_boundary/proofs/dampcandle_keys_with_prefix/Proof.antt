@@ -8,19 +8,15 @@ use Rattle.c_boundary.proofs.dampcandle_keys_with_prefix.Lts as lts
 use Rattle.c_boundary.proofs.put_length.Reads as put-length-reads
 use Rattle.register_map.proofs.keys_with_prefix.Reads as keys-with-prefix-reads
 
--- src/lib.rt:239:16
 keys-with-prefix-requires : tie.Need-keys-with-prefix-requires
 keys-with-prefix-requires c κs = search needs
 
--- src/lib.rt:239:5
 put-length-requires : tie.Need-put-length-requires
 put-length-requires c κs = search needs
 
--- src/lib.rt:230:1
 same-length : tie.Need-same-length
 same-length c = search needs
 
--- src/lib.rt:230:1
 returns : tie.Need-returns
 returns c =
     c .put-length .ensures _ ∙ ap (writtenTo _) (c .before .before .before .before .keys-with-prefix .ensures)

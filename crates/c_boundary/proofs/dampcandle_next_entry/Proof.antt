@@ -8,15 +8,12 @@ use Rattle.c_boundary.proofs.dampcandle_next_entry.Lts as lts
 use Rattle.c_boundary.proofs.put_places.Reads as put-places-reads
 use Rattle.register_map.proofs.next_entry.Reads as next-entry-reads
 
--- src/lib.rt:149:9
 next-entry-requires : tie.Need-next-entry-requires
 next-entry-requires c κs = search needs
 
--- src/lib.rt:150:5
 put-places-requires : tie.Need-put-places-requires
 put-places-requires c κs = search needs
 
--- src/lib.rt:138:1
 returns : tie.Need-returns
 returns c =
     c .put-places .ensures ∙ ap (foundTo _ _ _ _) (c .before .before .before .before .before .next-entry .ensures)

@@ -8,15 +8,12 @@ use Rattle.c_boundary.proofs.dampcandle_rebuild.Lts as lts
 use Rattle.c_boundary.proofs.put_digest.Reads as put-digest-reads
 use Rattle.register_map.proofs.rebuild.Reads as rebuild-reads
 
--- src/lib.rt:250:9
 rebuild-requires : tie.Need-rebuild-requires
 rebuild-requires c κs = search needs
 
--- src/lib.rt:252:5
 put-digest-requires : tie.Need-put-digest-requires
 put-digest-requires c κs = search needs
 
--- src/lib.rt:246:1
 returns : tie.Need-returns
 returns c =
     c .put-digest .ensures ∙ ap (digestedTo _) (ap rebuiltOf (c .before .before .before .rebuild .ensures))

@@ -8,15 +8,12 @@ use Rattle.c_boundary.proofs.dampcandle_root_hash.Lts as lts
 use Rattle.c_boundary.proofs.put_digest.Reads as put-digest-reads
 use Rattle.register_map.proofs.root_hash.Reads as root-hash-reads
 
--- src/lib.rt:98:9
 root-hash-requires : tie.Need-root-hash-requires
 root-hash-requires c κs = search needs
 
--- src/lib.rt:100:5
 put-digest-requires : tie.Need-put-digest-requires
 put-digest-requires c κs = search needs
 
--- src/lib.rt:94:1
 returns : tie.Need-returns
 returns c =
     c .put-digest .ensures ∙ ap (digestedTo _) (c .before .before .before .root-hash .ensures)

@@ -8,19 +8,15 @@ use Rattle.c_boundary.proofs.dampcandle_value_range.Lts as lts
 use Rattle.c_boundary.proofs.put_length.Reads as put-length-reads
 use Rattle.register_map.proofs.value_range.Reads as value-range-reads
 
--- src/lib.rt:227:16
 value-range-requires : tie.Need-value-range-requires
 value-range-requires c κs = search needs
 
--- src/lib.rt:227:5
 put-length-requires : tie.Need-put-length-requires
 put-length-requires c κs = search needs
 
--- src/lib.rt:217:1
 same-length : tie.Need-same-length
 same-length c = search needs
 
--- src/lib.rt:217:1
 returns : tie.Need-returns
 returns c =
     c .put-length .ensures _ ∙ ap (writtenTo _) (c .before .before .before .before .value-range .ensures)

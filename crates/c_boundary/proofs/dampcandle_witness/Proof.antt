@@ -8,19 +8,15 @@ use Rattle.c_boundary.proofs.dampcandle_witness.Lts as lts
 use Rattle.c_boundary.proofs.put_length.Reads as put-length-reads
 use Rattle.register_map.proofs.witness.Reads as witness-reads
 
--- src/lib.rt:201:16
 witness-requires : tie.Need-witness-requires
 witness-requires c κs = search needs
 
--- src/lib.rt:201:5
 put-length-requires : tie.Need-put-length-requires
 put-length-requires c κs = search needs
 
--- src/lib.rt:192:1
 same-length : tie.Need-same-length
 same-length c = search needs
 
--- src/lib.rt:192:1
 returns : tie.Need-returns
 returns c =
     c .put-length .ensures _ ∙ ap (writtenTo _) (c .before .before .before .before .witness .ensures)

@@ -5,13 +5,11 @@ use Rattle.c_boundary.proofs.put_count.Tie as tie
 use Rattle.c_boundary.proofs.put_count.Reads as reads
 use Rattle.c_boundary.proofs.put_count.Lts as lts
 
--- src/lib.rt:25:1
 returns : tie.Need-returns
 unfolding countedTo
 returns c =
     rw (eq-eqb _ 0 (c .if1 .taken))
 
--- src/lib.rt:25:1
 returns-2 : tie.Need-returns-2
 unfolding countedTo
 returns-2 c =

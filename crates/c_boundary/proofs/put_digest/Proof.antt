@@ -5,13 +5,11 @@ use Rattle.c_boundary.proofs.put_digest.Tie as tie
 use Rattle.c_boundary.proofs.put_digest.Reads as reads
 use Rattle.c_boundary.proofs.put_digest.Lts as lts
 
--- src/lib.rt:34:1
 returns : tie.Need-returns
 unfolding digestedTo
 returns c =
     rw (eq-eqb _ 0 (c .if1 .taken))
 
--- src/lib.rt:34:1
 returns-2 : tie.Need-returns-2
 unfolding digestedTo
 returns-2 c =

@@ -5,13 +5,11 @@ use Rattle.c_boundary.proofs.put_length.Tie as tie
 use Rattle.c_boundary.proofs.put_length.Reads as reads
 use Rattle.c_boundary.proofs.put_length.Lts as lts
 
--- src/lib.rt:66:1
 returns : tie.Need-returns
 unfolding writtenTo
 returns c out =
     rw (eq-eqb _ 0 (c .if1 .taken))
 
--- src/lib.rt:66:1
 returns-2 : tie.Need-returns-2
 unfolding writtenTo
 returns-2 c out =

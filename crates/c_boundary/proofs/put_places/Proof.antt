@@ -5,13 +5,11 @@ use Rattle.c_boundary.proofs.put_places.Tie as tie
 use Rattle.c_boundary.proofs.put_places.Reads as reads
 use Rattle.c_boundary.proofs.put_places.Lts as lts
 
--- src/lib.rt:47:1
 returns : tie.Need-returns
 unfolding foundTo
 returns c =
     rw (eq-eqb _ 0 (c .if1 .taken))
 
--- src/lib.rt:47:1
 returns-2 : tie.Need-returns-2
 unfolding foundTo
 returns-2 c =

@@ -5,13 +5,11 @@ use Rattle.c_boundary.proofs.put_yes.Tie as tie
 use Rattle.c_boundary.proofs.put_yes.Reads as reads
 use Rattle.c_boundary.proofs.put_yes.Lts as lts
 
--- src/lib.rt:16:1
 returns : tie.Need-returns
 unfolding toldTo
 returns c =
     rw (eq-eqb _ 0 (c .if1 .taken))
 
--- src/lib.rt:16:1
 returns-2 : tie.Need-returns-2
 unfolding toldTo
 returns-2 c =

@@ -7,24 +7,19 @@ use Rattle.register_map.proofs.entry_at.Reads as reads
 use Rattle.register_map.proofs.entry_at.Lts as lts
 use Rattle.register_map.proofs.no_entry.Reads as no-entry-reads
 
--- src/lib.rt:73:9
 enum-known-place : tie.Need-enum-known-place
 enum-known-place c = search needs
 
--- src/lib.rt:79:9
 enum-told : tie.Need-enum-told
 enum-told c = search needs
 
--- src/lib.rt:79:9
 no-entry-requires : tie.Need-no-entry-requires
 no-entry-requires c κs = search needs
 
--- src/lib.rt:79:9
 returns : tie.Need-returns
 returns c =
     c .no-entry .ensures ∙ sym (ap answerOf (c .before .enum-told .given .1))
 
--- src/lib.rt:69:1
 returns-2 : tie.Need-returns-2
 returns-2 c =
     sym (ap answerOf (c .before .place .given .1))

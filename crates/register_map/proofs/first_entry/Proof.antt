@@ -11,29 +11,23 @@ use Rattle.register_map.proofs.entry_at.Reads as entry-at-reads
 use Rattle.register_map.proofs.no_entry.Reads as no-entry-reads
 use Rattle.search.proofs.first_place.Reads as first-place-reads
 
--- src/lib.rt:106:9
 judge-requires : tie.Need-judge-requires
 judge-requires c κs = search needs
 
--- src/lib.rt:107:9
 no-entry-requires : tie.Need-no-entry-requires
 no-entry-requires c κs = search needs
 
--- src/lib.rt:107:9
 returns : tie.Need-returns
 returns c =
     c .no-entry .ensures ∙ first-unsound (decides-no (c .before .before .judge .result) (c .before .if1 .taken) (c .before .before .judge .ensures))
 
--- src/lib.rt:109:14
 first-place-requires : tie.Need-first-place-requires
 first-place-requires c κs =
     decides-yes (c .before .judge .result) (c .if1 .left) (c .before .judge .ensures)
 
--- src/lib.rt:109:5
 entry-at-requires : tie.Need-entry-at-requires
 entry-at-requires c κs = search needs
 
--- src/lib.rt:103:1
 returns-2 : tie.Need-returns-2
 returns-2 c =
     c .entry-at .ensures ∙ c .before .first-place .ensures

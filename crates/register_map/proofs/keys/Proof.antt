@@ -10,30 +10,24 @@ use Rattle.judge.proofs.judge.Reads as judge-reads
 use Rattle.register_map.proofs.refuse.Reads as refuse-reads
 use Rattle.witness.proofs.keys.Reads as keys-reads
 
--- src/lib.rt:233:9
 judge-requires : tie.Need-judge-requires
 judge-requires c κs = search needs
 
--- src/lib.rt:234:9
 refuse-requires : tie.Need-refuse-requires
 refuse-requires c κs = search needs
 
--- src/lib.rt:234:9
 returns : tie.Need-returns
 unfolding keysAnswer
 returns c =
     witness-unsound _ _ _ (decides-no (c .before .before .judge .result) (c .before .if1 .taken) (c .before .before .judge .ensures)) (c .refuse .ensures)
 
--- src/lib.rt:236:5
 keys-requires : tie.Need-keys-requires
 keys-requires c κs =
     decides-yes (c .before .before .judge .result) (c .before .if1 .left) (c .before .before .judge .ensures)
 
--- src/lib.rt:230:1
 same-length : tie.Need-same-length
 same-length c = search needs
 
--- src/lib.rt:230:1
 returns-2 : tie.Need-returns-2
 returns-2 c = search needs
 

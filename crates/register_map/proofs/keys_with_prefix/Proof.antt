@@ -10,40 +10,32 @@ use Rattle.judge.proofs.judge.Reads as judge-reads
 use Rattle.register_map.proofs.refuse.Reads as refuse-reads
 use Rattle.witness.proofs.keys_with_prefix.Reads as keys-with-prefix-reads
 
--- src/lib.rt:291:9
 judge-requires : tie.Need-judge-requires
 judge-requires c κs = search needs
 
--- src/lib.rt:292:9
 refuse-requires : tie.Need-refuse-requires
 refuse-requires c κs = search needs
 
--- src/lib.rt:292:9
 returns : tie.Need-returns
 unfolding keysWithPrefixAnswer
 returns c =
     witness-unsound _ _ _ (decides-no (c .before .before .judge .result) (c .before .if1 .taken) (c .before .before .judge .ensures)) (c .refuse .ensures)
 
--- src/lib.rt:295:9
 refuse-requires-2 : tie.Need-refuse-requires-2
 refuse-requires-2 c κs = search needs
 
--- src/lib.rt:295:9
 returns-2 : tie.Need-returns-2
 unfolding keysWithPrefixAnswer
 returns-2 c =
     witness-long _ _ (decides-yes (c .before .before .before .judge .result) (c .before .before .if1 .left) (c .before .before .before .judge .ensures)) _ _ (c .before .if2 .taken) (c .refuse2 .ensures)
 
--- src/lib.rt:297:5
 keys-with-prefix-requires : tie.Need-keys-with-prefix-requires
 keys-with-prefix-requires c κs =
     (decides-yes (c .before .before .before .judge .result) (c .before .before .if1 .left) (c .before .before .before .judge .ensures), c .before .if2 .left)
 
--- src/lib.rt:288:1
 same-length : tie.Need-same-length
 same-length c = search needs
 
--- src/lib.rt:288:1
 returns-3 : tie.Need-returns-3
 returns-3 c = search needs
 

@@ -11,38 +11,30 @@ use Rattle.register_map.proofs.entry_at.Reads as entry-at-reads
 use Rattle.register_map.proofs.no_entry.Reads as no-entry-reads
 use Rattle.search.proofs.next_place.Reads as next-place-reads
 
--- src/lib.rt:116:9
 judge-requires : tie.Need-judge-requires
 judge-requires c κs = search needs
 
--- src/lib.rt:117:9
 no-entry-requires : tie.Need-no-entry-requires
 no-entry-requires c κs = search needs
 
--- src/lib.rt:117:9
 returns : tie.Need-returns
 returns c =
     c .no-entry .ensures ∙ next-unsound (decides-no (c .before .before .judge .result) (c .before .if1 .taken) (c .before .before .judge .ensures)) _
 
--- src/lib.rt:120:9
 no-entry-requires-2 : tie.Need-no-entry-requires-2
 no-entry-requires-2 c κs = search needs
 
--- src/lib.rt:120:9
 returns-2 : tie.Need-returns-2
 returns-2 c =
     c .no-entry2 .ensures ∙ next-long (decides-yes (c .before .before .before .judge .result) (c .before .before .if1 .left) (c .before .before .before .judge .ensures)) _ (c .before .if2 .taken)
 
--- src/lib.rt:122:14
 next-place-requires : tie.Need-next-place-requires
 next-place-requires c κs =
     (decides-yes (c .before .before .judge .result) (c .before .if1 .left) (c .before .before .judge .ensures), c .if2 .left)
 
--- src/lib.rt:122:5
 entry-at-requires : tie.Need-entry-at-requires
 entry-at-requires c κs = search needs
 
--- src/lib.rt:113:1
 returns-3 : tie.Need-returns-3
 returns-3 c =
     c .entry-at .ensures ∙ c .before .next-place .ensures

@@ -1,6 +1,5 @@
 -- `witness_reader::next` meets its contract: a walk of its MIR, by hand. The struct is taken apart, `next_at` is called on the slice and the number, and a struct is made of the slice and the number that it answers.
 -- The struct is Copy: what it owns is had twice, one copy is kept for the exit and for the result, and of the other what src owns goes to the callee, beside the lifetime's token, which comes back.
--- Assumes nothing.
 use mathlib.Core.Path.{_≡_, refl, ap}
 use Prim.Native.Nat.{ℕ, _<_, _^_}
 use mathlib.Core.List.{[], _∷_}

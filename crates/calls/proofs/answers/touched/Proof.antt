@@ -14,31 +14,24 @@ Inv-loop output from n₀ i₀ n i = n ≤ i
 abbrev μ-loop : tie.MeasureT-loop
 μ-loop output from n₀ i₀ n i = length output - i
 
--- src/kinds.rt:160:5
 loop-holds : tie.Need-loop-holds Inv-loop μ-loop
 loop-holds c = search needs
 
--- src/kinds.rt:161:12
 shared-slice-read-if1 : tie.Need-shared-slice-read-if1 Inv-loop μ-loop
 shared-slice-read-if1 c = search needs
 
--- src/kinds.rt:162:13
 add-n : tie.Need-add-n Inv-loop μ-loop
 add-n c = search needs
 
--- src/kinds.rt:164:9
 add-i : tie.Need-add-i Inv-loop μ-loop
 add-i c = search needs
 
--- src/kinds.rt:160:5
 loop-less : tie.Need-loop-less Inv-loop μ-loop
 loop-less c = search needs
 
--- src/kinds.rt:160:5
 loop-again : tie.Need-loop-again Inv-loop μ-loop
 loop-again c = ⊎-elim (λ w. omega arith) (λ w. omega arith) (c .if1 .came)
 
--- src/kinds.rt:157:1
 returns : tie.Need-returns Inv-loop μ-loop
 returns c = search needs
 

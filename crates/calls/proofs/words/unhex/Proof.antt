@@ -14,55 +14,42 @@ Inv-loop word₀ n i₀ word i = (i ≤ n) × (length word ≡ length word₀)
 abbrev μ-loop : tie.MeasureT-loop
 μ-loop word₀ n i₀ word i = n - i
 
--- src/words.rt:84:5
 loop-holds : tie.Need-loop-holds Inv-loop μ-loop
 loop-holds c = search needs
 
--- src/words.rt:85:27
 mul-byte : tie.Need-mul-byte Inv-loop μ-loop
 mul-byte c = search needs
 
--- src/words.rt:85:22
 slice-read-byte : tie.Need-slice-read-byte Inv-loop μ-loop
 slice-read-byte c = search needs
 
--- src/words.rt:85:40
 mul-byte-2 : tie.Need-mul-byte-2 Inv-loop μ-loop
 mul-byte-2 c = search needs
 
--- src/words.rt:85:40
 add-byte : tie.Need-add-byte Inv-loop μ-loop
 add-byte c = search needs
 
--- src/words.rt:85:35
 slice-read-byte-2 : tie.Need-slice-read-byte-2 Inv-loop μ-loop
 slice-read-byte-2 c = search needs
 
--- src/words.rt:85:13
 byte-requires : tie.Need-byte-requires Inv-loop μ-loop
 byte-requires c κs = search needs
 
--- src/words.rt:86:9
 slice-write-word : tie.Need-slice-write-word Inv-loop μ-loop
 slice-write-word c = search needs
 
--- src/words.rt:87:9
 add-i : tie.Need-add-i Inv-loop μ-loop
 add-i c = search needs
 
--- src/words.rt:84:5
 loop-less : tie.Need-loop-less Inv-loop μ-loop
 loop-less c = search needs
 
--- src/words.rt:84:5
 loop-again : tie.Need-loop-again Inv-loop μ-loop
 loop-again c = search needs
 
--- src/words.rt:79:1
 same-length : tie.Need-same-length Inv-loop μ-loop
 same-length c = search needs
 
--- src/words.rt:79:1
 returns : tie.Need-returns Inv-loop μ-loop
 returns c = search needs
 
