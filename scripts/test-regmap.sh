@@ -179,6 +179,14 @@ for w in "$top"/examples/*.witness all.w low.w r.w; do
 done
 holds 'verify.py takes a wrong digest' bash -c "! python3 '$top/examples/verify.py' one.w ${D%9}8 >/dev/null"
 
+# ---- the page: no script in it, and where Chromium is there it draws it
+"$tool" html ctrl.w $D >page.html
+holds 'a script in the page' bash -c '! grep -qi "<script" page.html'
+if command -v chromium >/dev/null; then
+  chromium --headless --no-sandbox --disable-gpu --screenshot="$room/page.png" "file://$room/page.html" >/dev/null 2>&1
+  holds 'Chromium draws no page' test -s page.png
+fi
+
 # ---- SVD
 holds 'svd-to-map.py fails' python3 "$top/scripts/svd-to-map.py" "$top/examples/sample.svd" maps >/dev/null
 holds 'svd-to-map.py --check finds fault' python3 "$top/scripts/svd-to-map.py" --check maps/*.map "$top/examples/uart.map" >/dev/null

@@ -2,6 +2,7 @@
 use crate::build::build;
 use crate::stores;
 use crate::witnesses;
+use regmap_check::inspect;
 use regmap_words::kinds;
 use regmap_words::kinds::kind_of;
 use regmap_words::says::DONE;
@@ -27,6 +28,6 @@ pub(crate) fn command(line: &[u8], err: i32) -> usize {
         kinds::RUN => no_run(err),
         kinds::NONE => TROUBLE,
         kinds::SAID => DONE,
-        _ => witnesses::inspect(kind, line, err),
+        _ => inspect(kind, line, err),
     }
 }

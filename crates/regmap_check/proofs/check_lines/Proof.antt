@@ -1,8 +1,8 @@
 use borrow.Author.Needs.{needs}
 use lib.ListN.{length}
 use Prim.Native.Nat.{_-_}
-use Rattle.regmap.proofs.witnesses.check_lines.Statement.{statement}
-use Rattle.regmap.proofs.witnesses.check_lines.Tie as tie
+use Rattle.regmap_check.proofs.check_lines.Statement.{statement}
+use Rattle.regmap_check.proofs.check_lines.Tie as tie
 
 abbrev Inv-loop : tie.InvT-loop
 Inv-loop list err worst₀ at₀ worst at = Unit {0}

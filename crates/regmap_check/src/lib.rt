@@ -1,0 +1,207 @@
+// Commands that check and show witnesses: they need no store.
+use hash_tree::rebuild;
+use regmap_files::Holds;
+use regmap_files::Loaded;
+use regmap_files::kind_of;
+use regmap_files::load;
+use regmap_page::page;
+use regmap_show::counts::counted;
+use regmap_show::counts::say_counts;
+use regmap_show::json;
+use regmap_show::picture;
+use regmap_show::records;
+use regmap_words::kinds;
+use regmap_words::kinds::digest_ok;
+use regmap_words::kinds::has_digest;
+use regmap_words::kinds::is_json;
+use regmap_words::map::register_on;
+use regmap_words::says::DONE;
+use regmap_words::says::OUT;
+use regmap_words::says::REFUSED;
+use regmap_words::says::TROUBLE;
+use regmap_words::says::refuse;
+use text::hex;
+use text::print::say;
+use text::print::say_with_hex;
+use text::print::say3;
+use text::words::blanked;
+use text::words::find;
+use text::words::is;
+use text::words::part;
+use text::words::word;
+
+// ---- checking
+
+// A file that is refused for its bytes: what it is, where the first bytes tell.
+fn no_witness(path: &[u8], bytes: &[u8], err: i32) -> usize {
+    match kind_of(bytes) {
+        Holds::Store => say3(
+            err,
+            b"regmap: ",
+            path,
+            b" is a store and no witness: use list, get or root.\n",
+        ),
+        Holds::Other => say3(
+            err,
+            b"regmap: ",
+            path,
+            b": refused (9) these are not the bytes of a witness. Text out of a mail (hex, base64) must be turned into bytes first.\n",
+        ),
+        _ => {
+            refuse(err, path, 9);
+        }
+    }
+    REFUSED
+}
+
+// Whether the digest is the one that is wanted, in hex.
+fn is_wanted(digest: &[u8], wanted: &[u8]) -> bool {
+    let few = hex::value(wanted);
+    let bytes = few.bytes;
+    is(digest, part(&bytes, 0, few.len))
+}
+
+fn say_match(path: &[u8], witness: &[u8]) -> usize {
+    say(OUT, path);
+    say(OUT, b" matches: it rebuilds to that root digest.\n");
+    say_counts(OUT, counted(witness));
+    DONE
+}
+
+fn say_other(path: &[u8], digest: &[u8], err: i32) -> usize {
+    say3(err, b"regmap: ", path, b" does not match: ");
+    say_with_hex(
+        err,
+        b"it rebuilds to ",
+        digest,
+        b". It is no witness of that release: do not use it.\n",
+    );
+    REFUSED
+}
+
+fn check(path: &[u8], wanted: &[u8], json: bool, witness: &[u8], err: i32) -> usize {
+    let r = rebuild(witness);
+    if r.number != 0 {
+        return no_witness(path, witness, err);
+    }
+    let digest = r.digest;
+    let same = is_wanted(&digest, wanted);
+    if json {
+        json::check(&digest, same, counted(witness));
+        return if same { DONE } else { REFUSED };
+    }
+    if same {
+        return say_match(path, witness);
+    }
+    say_other(path, &digest, err)
+}
+
+// ---- showing
+
+fn say_compared(line: &[u8], digest: &[u8], err: i32) -> usize {
+    if !has_digest(line) {
+        say(
+            OUT,
+            b"compared with nothing: check compares it with a root digest.\n",
+        );
+        return DONE;
+    }
+    if is_wanted(digest, word(line, 2)) {
+        say(OUT, b"it matches the digest given.\n");
+        return DONE;
+    }
+    say_other(word(line, 1), digest, err)
+}
+
+fn read_text(line: &[u8], witness: &[u8], err: i32) -> usize {
+    records::read(witness);
+    let r = rebuild(witness);
+    if r.number != 0 {
+        return no_witness(word(line, 1), witness, err);
+    }
+    let digest = r.digest;
+    say_with_hex(OUT, b"root digest ", &digest, b"\n");
+    say_counts(OUT, counted(witness));
+    say_compared(line, &digest, err)
+}
+
+// As JSON, a picture or a page: of a witness that rebuild takes, and matches the digest if one is given.
+fn shown(kind: usize, line: &[u8], witness: &[u8], err: i32) -> usize {
+    let r = rebuild(witness);
+    if r.number != 0 {
+        return no_witness(word(line, 1), witness, err);
+    }
+    let digest = r.digest;
+    let compared = has_digest(line);
+    let same = is_wanted(&digest, word(line, 2));
+    match kind {
+        kinds::READ => json::read(witness, &digest, compared, same, counted(witness)),
+        kinds::DOT => picture::dot(witness, &digest, compared && same),
+        _ => page(witness, &digest, compared, same),
+    }
+    if compared && !same {
+        return say_other(word(line, 1), &digest, err);
+    }
+    DONE
+}
+
+fn show(kind: usize, line: &[u8], witness: &[u8], err: i32) -> usize {
+    if kind == kinds::CHECK {
+        return check(word(line, 1), word(line, 2), is_json(line), witness, err);
+    }
+    if kind == kinds::READ && !is_json(line) {
+        return read_text(line, witness, err);
+    }
+    shown(kind, line, witness, err)
+}
+
+// ---- many files
+
+fn check_line(line: &[u8], err: i32) -> usize {
+    if register_on(line) == 0 {
+        return DONE;
+    }
+    if !digest_ok(word(line, 0), err) {
+        return TROUBLE;
+    }
+    let mut buf = [0u8; 524_288];
+    let Loaded::Whole(n) = load(word(line, 1), &mut buf, err) else {
+        return TROUBLE;
+    };
+    check(word(line, 1), word(line, 0), false, part(&buf, 0, n), err)
+}
+
+// Every line of a list, DIGEST WITNESS; the worst status of all.
+fn check_lines(list: &[u8], err: i32) -> usize {
+    let mut worst = DONE;
+    let mut at = 0;
+    while at < list.len() {
+        let end = find(list, at, b'\n');
+        let status = check_line(&list[at..end], err);
+        if worst < status {
+            worst = status;
+        }
+        at = end + 1;
+    }
+    worst
+}
+
+fn check_list(path: &[u8], err: i32) -> usize {
+    let mut list = [0u8; 65_536];
+    let Loaded::Whole(n) = load(path, &mut list, err) else {
+        return TROUBLE;
+    };
+    blanked(&mut list);
+    check_lines(part(&list, 0, n), err)
+}
+
+pub fn inspect(kind: usize, line: &[u8], err: i32) -> usize {
+    if is(word(line, 1), b"-c") {
+        return check_list(word(line, 2), err);
+    }
+    let mut buf = [0u8; 524_288];
+    let Loaded::Whole(n) = load(word(line, 1), &mut buf, err) else {
+        return TROUBLE;
+    };
+    show(kind, line, part(&buf, 0, n), err)
+}
