@@ -4,10 +4,10 @@
 //
 // Landed: every line of the base: buffer, load, poke, room, create, insert, modify, delete, get, first, next, count, empty, root,
 // full, keys, witness, krange, vrange, prefix, rebuild, hash, store, sum; of the later requests ask (Q-1), merge (Q-14), and begin, part,
-// end (Q-8).
-mod answers;
+// end (Q-8). 4 is by the rule of Q-7.
 mod asked;
 mod input;
+mod lines;
 mod names;
 mod reply;
 mod words;
@@ -18,5 +18,5 @@ fn main() {
     let mut store = [0u8; 153_608];
     let mut output = [0u8; 131_072];
     let mut state = [0u8; parts::STATE];
-    answers::run(&mut chunk, &mut line, &mut store, &mut output, &mut state);
+    lines::run(&mut chunk, &mut line, &mut store, &mut output, &mut state);
 }

@@ -3,10 +3,10 @@ use native.Mathlib.Omega.{arith}
 use Prim.Native.Nat.{_≤_, _-_}
 use lib.ListN.{length}
 use borrow.Author.Needs.{needs}
-use Rattle.calls.proofs.answers.touched.Statement.{statement}
-use Rattle.calls.proofs.answers.touched.Tie as tie
-use Rattle.calls.proofs.answers.touched.Reads as reads
-use Rattle.calls.proofs.answers.touched.Lts as lts
+use Rattle.calls.proofs.lines.touched.Statement.{statement}
+use Rattle.calls.proofs.lines.touched.Tie as tie
+use Rattle.calls.proofs.lines.touched.Reads as reads
+use Rattle.calls.proofs.lines.touched.Lts as lts
 
 abbrev Inv-loop : tie.InvT-loop
 Inv-loop output from n₀ i₀ n i = n ≤ i

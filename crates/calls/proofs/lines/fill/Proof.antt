@@ -3,10 +3,10 @@ use native.Mathlib.Omega.{arith}
 use Prim.Native.Nat.{_-_}
 use lib.ListN.{length, length-set}
 use borrow.Author.Needs.{needs}
-use Rattle.calls.proofs.answers.fill.Statement.{statement}
-use Rattle.calls.proofs.answers.fill.Tie as tie
-use Rattle.calls.proofs.answers.fill.Reads as reads
-use Rattle.calls.proofs.answers.fill.Lts as lts
+use Rattle.calls.proofs.lines.fill.Statement.{statement}
+use Rattle.calls.proofs.lines.fill.Tie as tie
+use Rattle.calls.proofs.lines.fill.Reads as reads
+use Rattle.calls.proofs.lines.fill.Lts as lts
 
 abbrev Inv-loop : tie.InvT-loop
 Inv-loop s₀ b i₀ s i = length s ≡ length s₀

@@ -1,8 +1,8 @@
 use mathlib.Core.Path.{_≡_}
 use lib.ListN.{length}
 use borrow.Author.Needs.{needs}
-use Rattle.calls.proofs.answers.run.Statement.{statement}
-use Rattle.calls.proofs.answers.run.Tie as tie
+use Rattle.calls.proofs.lines.run.Statement.{statement}
+use Rattle.calls.proofs.lines.run.Tie as tie
 
 abbrev Inv-loop : tie.InvT-loop
 Inv-loop chunk₀ line₀ store₀ output₀ turns₀ at₀ end₀ sizes₀ chunk line store output turns at end sizes = (length chunk ≡ length chunk₀) × (length line ≡ length line₀) × (length store ≡ length store₀) × (length output ≡ length output₀)
