@@ -269,6 +269,20 @@ fn answer(x: Asked, line: &[u8], store: &mut [u8], output: &mut [u8], sizes: Siz
     sizes
 }
 
+// Answers a line of `n` bytes.
+fn turn(
+    line: &mut [u8],
+    n: usize,
+    store: &mut [u8],
+    output: &mut [u8],
+    state: &mut [u8; STATE],
+    sizes: Sizes,
+) -> Sizes {
+    let asked = read(line, n);
+    feed(asked, line, state);
+    answer(asked, line, store, output, sizes)
+}
+
 // A loop has to end, and nothing says that the input does: it counts its turns down, from a number that no run uses up.
 pub(crate) fn run(
     chunk: &mut [u8],
@@ -293,8 +307,6 @@ pub(crate) fn run(
         }
         at = got.at;
         end = got.end;
-        let asked = read(line, got.len);
-        feed(asked, line, state);
-        sizes = answer(asked, line, store, output, sizes);
+        sizes = turn(line, got.len, store, output, state, sizes);
     }
 }

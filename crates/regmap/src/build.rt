@@ -1,8 +1,8 @@
 // A store from a map: a text file with a register a line, NAME HEX.
 use crate::stores::say_store;
-use crate::witnesses::said_to;
 use judge::judge;
 use rb_tree::Inserted;
+use regmap_check::said_to;
 use regmap_files::Loaded;
 use regmap_files::load;
 use regmap_files::save;

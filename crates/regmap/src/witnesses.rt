@@ -2,42 +2,22 @@
 use crate::stores::ROOM;
 use crate::stores::refuse_on;
 use answers::Saved;
+use regmap_check::said_to;
+use regmap_check::say_cut;
 use regmap_files::Loaded;
 use regmap_files::load;
 use regmap_files::save;
-use regmap_show::counts::counted;
-use regmap_show::counts::say_counts;
 use regmap_show::counts::say_labels;
 use regmap_words::kinds;
 use regmap_words::says::DONE;
-use regmap_words::says::OUT;
 use regmap_words::says::TROUBLE;
 use text::hex;
 use text::print::say;
-use text::print::say_number;
-use text::print::say_with_hex;
 use text::words::has;
-use text::words::is;
 use text::words::part;
 use text::words::word;
 
 // ---- cutting
-
-// Where it is said that a file was written: beside it, if that is standard output.
-pub(crate) fn said_to(path: &[u8]) -> i32 {
-    if is(path, b"-") { 2 } else { OUT }
-}
-
-fn say_cut(path: &[u8], witness: &[u8]) {
-    let to = said_to(path);
-    let r = register_map::rebuild(witness);
-    let digest = r.digest;
-    say(to, path);
-    say(to, b": ");
-    say_number(to, witness.len());
-    say_with_hex(to, b" bytes, root ", &digest, b"\n");
-    say_counts(to, counted(witness));
-}
 
 fn is_absent(store: &[u8], name: &[u8]) -> bool {
     let few = hex::name(name);

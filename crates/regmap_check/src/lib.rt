@@ -1,9 +1,13 @@
-// Commands that check and show witnesses: they need no store.
+// Commands that check, show, ask and merge witnesses: they need no store.
 use hash_tree::rebuild;
+use merge::merge;
+use regmap_ask::Told;
+use regmap_ask::ask;
 use regmap_files::Holds;
 use regmap_files::Loaded;
 use regmap_files::kind_of;
 use regmap_files::load;
+use regmap_files::save;
 use regmap_page::page;
 use regmap_show::counts::counted;
 use regmap_show::counts::say_counts;
@@ -22,6 +26,7 @@ use regmap_words::says::TROUBLE;
 use regmap_words::says::refuse;
 use text::hex;
 use text::print::say;
+use text::print::say_number;
 use text::print::say_with_hex;
 use text::print::say3;
 use text::words::blanked;
@@ -145,7 +150,39 @@ fn shown(kind: usize, line: &[u8], witness: &[u8], err: i32) -> usize {
     DONE
 }
 
+// ---- asking
+
+// What is said of a witness that matched, as a status.
+fn asked(path: &[u8], told: Told, err: i32) -> usize {
+    match told {
+        Told::Known => DONE,
+        Told::Silent => REFUSED,
+        Told::Refused(number) => {
+            refuse(err, path, number);
+            REFUSED
+        }
+    }
+}
+
+// Nothing is said of a witness before its digest matched.
+fn ask_of(line: &[u8], witness: &[u8], err: i32) -> usize {
+    let r = rebuild(witness);
+    if r.number != 0 {
+        return no_witness(word(line, 1), witness, err);
+    }
+    let digest = r.digest;
+    if !is_wanted(&digest, word(line, 2)) {
+        return say_other(word(line, 1), &digest, err);
+    }
+    let few = hex::name(word(line, 3));
+    let key = few.bytes;
+    asked(word(line, 1), ask(witness, part(&key, 0, few.len)), err)
+}
+
 fn show(kind: usize, line: &[u8], witness: &[u8], err: i32) -> usize {
+    if kind == kinds::ASK {
+        return ask_of(line, witness, err);
+    }
     if kind == kinds::CHECK {
         return check(word(line, 1), word(line, 2), is_json(line), witness, err);
     }
@@ -153,6 +190,72 @@ fn show(kind: usize, line: &[u8], witness: &[u8], err: i32) -> usize {
         return read_text(line, witness, err);
     }
     shown(kind, line, witness, err)
+}
+
+// ---- merging
+
+// Where it is said that a file was written: beside it, if that is standard output.
+pub fn said_to(path: &[u8]) -> i32 {
+    if is(path, b"-") { 2 } else { OUT }
+}
+
+// A witness that was written: its length, the digest that it rebuilds to, and what it shows.
+pub fn say_cut(path: &[u8], witness: &[u8]) {
+    let to = said_to(path);
+    let r = rebuild(witness);
+    let digest = r.digest;
+    say(to, path);
+    say(to, b": ");
+    say_number(to, witness.len());
+    say_with_hex(to, b" bytes, root ", &digest, b"\n");
+    say_counts(to, counted(witness));
+}
+
+fn say_root(path: &[u8], witness: &[u8], err: i32) {
+    let r = rebuild(witness);
+    let digest = r.digest;
+    say3(err, b"  ", path, b" rebuilds to ");
+    say_with_hex(err, b"", &digest, b"\n");
+}
+
+// Why two files do not merge.
+fn unmerged(line: &[u8], one: &[u8], other: &[u8], number: usize, err: i32) -> usize {
+    if rebuild(one).number != 0 {
+        return no_witness(word(line, 1), one, err);
+    }
+    if rebuild(other).number != 0 {
+        return no_witness(word(line, 2), other, err);
+    }
+    refuse(err, word(line, 2), number);
+    say_root(word(line, 1), one, err);
+    say_root(word(line, 2), other, err);
+    REFUSED
+}
+
+fn merged(line: &[u8], one: &[u8], other: &[u8], err: i32) -> usize {
+    let mut out = [0u8; 524_288];
+    let r = merge(one, other, &mut out);
+    if r.number != 0 {
+        return unmerged(line, one, other, r.number, err);
+    }
+    if !save(word(line, 3), part(&out, 0, r.size), false, err) {
+        return TROUBLE;
+    }
+    say_cut(word(line, 3), part(&out, 0, r.size));
+    DONE
+}
+
+// Two witnesses of one release in one.
+pub fn merge_files(line: &[u8], err: i32) -> usize {
+    let mut one = [0u8; 524_288];
+    let Loaded::Whole(n) = load(word(line, 1), &mut one, err) else {
+        return TROUBLE;
+    };
+    let mut other = [0u8; 524_288];
+    let Loaded::Whole(m) = load(word(line, 2), &mut other, err) else {
+        return TROUBLE;
+    };
+    merged(line, part(&one, 0, n), part(&other, 0, m), err)
 }
 
 // ---- many files

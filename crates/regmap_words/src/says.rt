@@ -21,7 +21,7 @@ pub fn version() {
     say(OUT, &VERSION);
 }
 
-const USAGE: [u8; 1723] =
+const USAGE: [u8; 1865] =
     *b"regmap: a map of registers as a store with a root digest, and witnesses of it
 
                regmap ..                       for example, regmap ..
@@ -37,8 +37,10 @@ const USAGE: [u8; 1723] =
                  [--values]                    range u.store w 008 010 --values
                prefix STORE OUT PREFIX         prefix u.store w 00
                full STORE OUT                  full u.store w
+               merge ONE OTHER OUT             merge w v both
   is it right? check WITNESS DIGEST [--json]   check w $(regmap root u.store)
                check -c FILE                   check -c digests
+               ask WITNESS DIGEST NAME         ask w $(regmap root u.store) 010
   shown        read WITNESS [DIGEST] [--json]  read w
                dot WITNESS [DIGEST]            dot w | dot -Tsvg >w.svg
                html WITNESS [DIGEST]           html w >w.html
@@ -55,8 +57,8 @@ pub fn usage(to: i32) {
     say(to, &USAGE);
 }
 
-// What the numbers of document 01 mean, and what to do. A zero byte parts them.
-const MEANINGS: [u8; 716] =
+// What the numbers of documents 01 and 02 mean, and what to do. A zero byte parts them.
+const MEANINGS: [u8; 997] =
     *b"(1) the store is not sound: its bytes are damaged, or are no store. Take a sound copy, or build it anew from its map.\0\
 (2) the name is longer than 48 bytes. Shorten it.\0\
 (3) the value is longer than 64 bytes. Shorten it.\0\
@@ -66,7 +68,12 @@ const MEANINGS: [u8; 716] =
 (7) there is no such register. regmap list shows the names.\0\
 (8) a store has a capacity of 1 to 1024. Choose one.\0\
 (9) the bytes are not exactly one witness. Get the file again; regmap read shows how far it makes sense.\0\
-(10) the message is longer than 65536 bytes.";
+(10) the message is longer than 65536 bytes.\0\
+(11) the witness is not well-formed: names that do not rise, or a bare value. None of regmap's is; distrust its maker.\0\
+(12) the bytes are no witness in CBOR.\0\
+(13) the log is malformed.\0\
+(14) the path is empty, too long or cut short.\0\
+(15) these are not two witnesses of one release.";
 
 pub fn meaning(err: i32, number: usize) {
     if number > 0 {

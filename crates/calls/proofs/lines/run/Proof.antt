@@ -3,12 +3,21 @@ use lib.ListN.{length}
 use borrow.Author.Needs.{needs}
 use Rattle.calls.proofs.lines.run.Statement.{statement}
 use Rattle.calls.proofs.lines.run.Tie as tie
+use Rattle.calls.proofs.lines.run.Reads as reads
+use Rattle.calls.proofs.lines.run.Lts as lts
+use Rattle.calls.proofs.input.read_line.Reads as read-line-reads
+use Rattle.calls.proofs.lines.turn.Reads as turn-reads
+use Rattle.register_map.proofs.rebuild_begin.Reads as rebuild-begin-reads
 
 abbrev Inv-loop : tie.InvT-loop
-Inv-loop chunk₀ line₀ store₀ output₀ turns₀ at₀ end₀ sizes₀ chunk line store output turns at end sizes = (length chunk ≡ length chunk₀) × (length line ≡ length line₀) × (length store ≡ length store₀) × (length output ≡ length output₀)
+Inv-loop chunk₀ line₀ store₀ output₀ state₀ turns₀ at₀ end₀ sizes₀ chunk line store output state turns at end sizes =
+    (length chunk ≡ length chunk₀) × (length line ≡ length line₀) × (length store ≡ length store₀) × (length output ≡ length output₀)
 
 abbrev μ-loop : tie.MeasureT-loop
-μ-loop chunk₀ line₀ store₀ output₀ turns₀ at₀ end₀ sizes₀ chunk line store output turns at end sizes = turns
+μ-loop chunk₀ line₀ store₀ output₀ state₀ turns₀ at₀ end₀ sizes₀ chunk line store output state turns at end sizes = turns
+
+rebuild-begin-requires : tie.Need-rebuild-begin-requires Inv-loop μ-loop
+rebuild-begin-requires c κs = search needs
 
 loop-holds : tie.Need-loop-holds Inv-loop μ-loop
 loop-holds c = search needs
@@ -34,8 +43,8 @@ same-length-4 c = search needs
 returns : tie.Need-returns Inv-loop μ-loop
 returns c = search needs
 
-answer-requires : tie.Need-answer-requires Inv-loop μ-loop
-answer-requires c κs = search needs
+turn-requires : tie.Need-turn-requires Inv-loop μ-loop
+turn-requires c κs = search needs
 
 loop-less : tie.Need-loop-less Inv-loop μ-loop
 loop-less c = search needs
@@ -64,6 +73,7 @@ run-spec =
     (tie.spec
     Inv-loop
     μ-loop
+    rebuild-begin-requires
     loop-holds
     sub-turns
     read-line-requires
@@ -72,7 +82,7 @@ run-spec =
     same-length-3
     same-length-4
     returns
-    answer-requires
+    turn-requires
     loop-less
     loop-again
     same-length-5
