@@ -1,6 +1,7 @@
 // Lookup, merge and rebuild in parts, each beside rebuild. See files.sh.
 #include "../include/dampcandle.h"
 #include "clock.h"
+#include <stdbool.h>
 #include <stdio.h>
 #include <stdlib.h>
 #include <string.h>
@@ -10,6 +11,11 @@ enum { ENTRIES = 1024, ASKED = 128, TURNS = 15 };
 static uint8_t store[8 + 150 * ENTRIES], whole[DAMPCANDLE_MAX_WITNESS], one[DAMPCANDLE_MAX_WITNESS], other[DAMPCANDLE_MAX_WITNESS],
     out[DAMPCANDLE_MAX_WITNESS], state[DAMPCANDLE_PARTS];
 static size_t whole_size, one_size, other_size, out_size, key_length, value_length, part;
+
+// ---- the Rust's side, rust_merge.rs
+
+extern void *rust_parse(const uint8_t *, size_t);
+extern size_t rust_merge(void *, void *, bool, uint8_t *, size_t);
 
 static void must(int yes, const char *what) {
   if (!yes) {
@@ -80,6 +86,30 @@ static void beside(const char *what, void (*run)(void), int runs, const uint8_t 
   printf("  %-38s %7.1f us, rebuild %7.1f us, %.3f of it\n", what, ours * 1e6, rebuilt * 1e6, ours / rebuilt);
 }
 
+// ---- merge beside the Rust's: of trees that stand, freed after; and with the bytes parsed first and the merge written, as ours does
+
+static void beside_rust(void) {
+  double ours = 1e9, merged = 1e9, all = 1e9;
+  for (int turn = 0; turn < TURNS; turn++) {
+    double start = cpu();
+    merge();
+    double took = cpu() - start;
+    if (took < ours) ours = took;
+    void *a = rust_parse(one, one_size), *b = rust_parse(other, other_size);
+    start = cpu();
+    rust_merge(a, b, false, out, sizeof out);
+    took = cpu() - start;
+    if (took < merged) merged = took;
+    start = cpu();
+    size_t n = rust_merge(rust_parse(one, one_size), rust_parse(other, other_size), true, out, sizeof out);
+    took = cpu() - start;
+    if (took < all) all = took;
+    must(n == whole_size && memcmp(out, whole, whole_size) == 0, "the Rust's merge is not the whole");
+  }
+  printf("  %-38s %7.1f us, the Rust's time over ours: %.2f, with bytes parsed and written %.2f\n", "  the same beside the Rust", ours * 1e6,
+         merged / ours, all / ours);
+}
+
 static void measure(size_t keys, size_t values) {
   uint8_t low[48], middle[48], next[48], high[48];
   key_length = keys, value_length = values;
@@ -92,6 +122,7 @@ static void measure(size_t keys, size_t values) {
   must(dampcandle_witness(store, sizeof store, middle, keys, other, sizeof other, &other_size) == 0, "witness");
   beside("merge of the whole and one key's", merge, 1, one, one_size);
   must(out_size == whole_size && memcmp(out, whole, whole_size) == 0, "the merge is not the whole");
+  beside_rust();
 
   name(low, 0), name(middle, 511), name(next, 512), name(high, 1023);
   must(dampcandle_value_range(store, sizeof store, low, keys, middle, keys, one, sizeof one, &one_size) == 0, "value_range");
@@ -101,6 +132,7 @@ static void measure(size_t keys, size_t values) {
   else
     beside("merge of two ranges of 512", merge, 1, other, other_size);
   must(out_size == whole_size && memcmp(out, whole, whole_size) == 0, "the merge is not the whole");
+  beside_rust();
 
   static const size_t parts[] = {DAMPCANDLE_MAX_WITNESS, 64, 1};
   static const char *const words[] = {"rebuild as one part", "rebuild in parts of 64 bytes", "rebuild in parts of one byte"};
