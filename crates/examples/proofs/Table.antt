@@ -25,11 +25,11 @@ use Rattle.store.specs.Model.{Model, head, fresh, inserted, deleted}
 use Rattle.store.specs.Sound.{Represents}
 use Rattle.store.specs.Encode.{encode}
 use Rattle.store.specs.Decode.{decode}
-use Rattle.store.specs.Calls.{insertIn, deleteIn, ofKey, ofRange, createAnswer, keysAnswer, witnessAnswer, valueRangeAnswer}
+use Rattle.store.specs.Calls.{insertIn, deleteIn, ofKey, ofRange, createAnswer, keysAnswer, witnessAnswer, keysWithPrefixAnswer, valueRangeAnswer}
 use Rattle.store.specs.History.{Edit, Insert, Delete, storeAfter, modelAfter}
 use Rattle.store.proofs.Running.{store-holds, store-decodes}
 use Rattle.store.proofs.Witnessing.{has-room, no-room}
-use Rattle.examples.specs.Examples.{a, b, c, d, aa, ba, bb, black, red, abc, dcba, prefixes, SameMap, filled, cut, whole, Examples}
+use Rattle.examples.specs.Examples.{a, b, c, d, aa, ba, bb, black, red, abc, dcba, prefixes, SameMap, filled, cut, whole, fromB, fromBa, Examples}
 
 -- the store after a history of n slots holds the model after it
 held : (h : List Edit) → Represents (storeAfter 4 h) (modelAfter 4 h)
@@ -120,13 +120,21 @@ gap-witness out r = has-room (ofKey witness aa) gap out (store-holds 3 (lit≤ t
 
 -- ---- prefixes
 
-prefix-b-is : labels (keysWithPrefix b (modelAfter 4 prefixes .tree)) ≡ b ∷ ba ∷ c ∷ []
-unfolding modelAfter fresh insertIn inserted insert insertGo balance get cmp keysWithPrefix rangeWitness witnessRangeAbove witnessRangeBetween lowerBound rightPrefixNeighbor isPrefixOf threeWayFork fullWitnessTree
+prefix-b-is : ofKey keysWithPrefix b (modelAfter 4 prefixes) ≡ done fromB
+unfolding ofKey modelAfter fresh insertIn inserted insert insertGo balance get cmp keysWithPrefix rangeWitness witnessRangeAbove witnessRangeBetween lowerBound rightPrefixNeighbor isPrefixOf threeWayFork fullWitnessTree subtreeDigest
 prefix-b-is = refl
 
-prefix-bb-is : labels (keysWithPrefix bb (modelAfter 4 prefixes .tree)) ≡ ba ∷ c ∷ []
-unfolding modelAfter fresh insertIn inserted insert insertGo balance get cmp keysWithPrefix rangeWitness witnessRangeAbove witnessRangeBetween lowerBound rightPrefixNeighbor isPrefixOf threeWayFork fullWitnessTree
+prefix-b-witness : (out : List ℕ) → length (write fromB) ≤ length out → keysWithPrefixAnswer b (storeAfter 4 prefixes) out ≡ filled (write fromB) out
+unfolding keysWithPrefixAnswer
+prefix-b-witness out r = has-room (ofKey keysWithPrefix b) fromB out (held prefixes) prefix-b-is r
+
+prefix-bb-is : ofKey keysWithPrefix bb (modelAfter 4 prefixes) ≡ done fromBa
+unfolding ofKey modelAfter fresh insertIn inserted insert insertGo balance get cmp keysWithPrefix rangeWitness witnessRangeAbove witnessRangeBetween lowerBound rightPrefixNeighbor isPrefixOf threeWayFork fullWitnessTree subtreeDigest
 prefix-bb-is = refl
+
+prefix-bb-witness : (out : List ℕ) → length (write fromBa) ≤ length out → keysWithPrefixAnswer bb (storeAfter 4 prefixes) out ≡ filled (write fromBa) out
+unfolding keysWithPrefixAnswer
+prefix-bb-witness out r = has-room (ofKey keysWithPrefix bb) fromBa out (held prefixes) prefix-bb-is r
 
 -- ---- the table
 
@@ -145,6 +153,8 @@ examples =
       deleted = decoded (Delete b ∷ abc) ∙ deleted-is;
       heads = ap (λ (h : Header). h .free) (held (Delete b ∷ abc) .laid .header) ∙ ap (λ (m : Model). head (m .free)) deleted-is;
       between = gap-witness;
-      prefix-b = ap (λ (m : Model). labels (keysWithPrefix b (m .tree))) (decoded prefixes) ∙ prefix-b-is;
-      prefix-bb = ap (λ (m : Model). labels (keysWithPrefix bb (m .tree))) (decoded prefixes) ∙ prefix-bb-is;
+      prefix-b = prefix-b-witness;
+      labels-b = refl;
+      prefix-bb = prefix-bb-witness;
+      labels-bb = refl;
     }

@@ -11,10 +11,9 @@ use Rattle.hash_tree.specs.Written.{write}
 use Rattle.llrb.specs.Tree.{Value, Tree, nil, node, entries}
 use Rattle.llrb.specs.Map.{pairs}
 use Rattle.witness_trees.specs.Reading.{labels}
-use Rattle.witness_trees.specs.Witness.{keysWithPrefix}
 use Rattle.store.specs.Decode.{decode}
 use Rattle.store.specs.Answers.{Written}
-use Rattle.store.specs.Calls.{createAnswer, keysAnswer, witnessAnswer, valueRangeAnswer}
+use Rattle.store.specs.Calls.{createAnswer, keysAnswer, witnessAnswer, keysWithPrefixAnswer, valueRangeAnswer}
 use Rattle.store.specs.History.{Edit, Insert, Delete, storeAfter}
 
 abbrev pub a : Key
@@ -71,6 +70,13 @@ abbrev pub whole : List ℕ
 whole =
     0x20 ∷ 0x00 ∷ 0x40 ∷ 0x01 ∷ 0x61 ∷ 0x60 ∷ 0x01 ∷ 0x01 ∷ 0x20 ∷ 0x00 ∷ 0x40 ∷ 0x01 ∷ 0x62 ∷ 0x60 ∷ 0x01 ∷ 0x02 ∷ 0x40 ∷ 0x01 ∷ 0x63 ∷ 0x60 ∷ 0x01 ∷ 0x03 ∷ []
 
+-- of the keys a, b, ba, c: b and what follows it; ba and what follows it
+abbrev pub fromB : HashTree
+fromB = Fork (Pruned (labeledHash a (leafHash []))) (Fork (cut b []) (Fork (cut ba []) (cut c [])))
+
+abbrev pub fromBa : HashTree
+fromBa = Fork (Pruned (labeledHash a (leafHash []))) (Fork (Pruned (labeledHash b (leafHash []))) (Fork (cut ba []) (cut c [])))
+
 pub record Examples : Type 0 where
   -- fresh store, capacity 1, in any buffer of its length
   pub fresh : (s : List ℕ) → length s ≡ 158
@@ -102,5 +108,7 @@ pub record Examples : Type 0 where
       → length (write (Fork (cut a (1 ∷ [])) (Fork (cut b (2 ∷ [])) (Pruned (labeledHash c (leafHash (3 ∷ []))))))) ≤ length out
       → witnessAnswer aa (storeAfter 3 abc) out ≡ filled (write (Fork (cut a (1 ∷ [])) (Fork (cut b (2 ∷ [])) (Pruned (labeledHash c (leafHash (3 ∷ []))))))) out
   -- keys a, b, ba, c: prefix b labels b, ba, c; prefix bb labels ba, c
-  pub prefix-b : labels (keysWithPrefix b (decode (storeAfter 4 prefixes) .tree)) ≡ b ∷ ba ∷ c ∷ []
-  pub prefix-bb : labels (keysWithPrefix bb (decode (storeAfter 4 prefixes) .tree)) ≡ ba ∷ c ∷ []
+  pub prefix-b : (out : List ℕ) → length (write fromB) ≤ length out → keysWithPrefixAnswer b (storeAfter 4 prefixes) out ≡ filled (write fromB) out
+  pub labels-b : labels fromB ≡ b ∷ ba ∷ c ∷ []
+  pub prefix-bb : (out : List ℕ) → length (write fromBa) ≤ length out → keysWithPrefixAnswer bb (storeAfter 4 prefixes) out ≡ filled (write fromBa) out
+  pub labels-bb : labels fromBa ≡ ba ∷ c ∷ []

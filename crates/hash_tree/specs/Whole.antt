@@ -3,6 +3,7 @@ use Prim.Native.Nat.{ℕ}
 use mathlib.Core.Path.{_≡_}
 use mathlib.Core.List.{List, [], _∷_}
 use lib.ListN.{replicate}
+use Rattle.answers.specs.Numbers.{Malformed, numberOf}
 use Rattle.hash_tree.specs.declared.Rebuilt.{Rebuilt}
 use Rattle.hash_tree.specs.HashTree.{HashTree, Digest, digest}
 use Rattle.hash_tree.specs.Written.{write, Lawful, maxDepth, digestLen}
@@ -12,7 +13,7 @@ abbrev pub accepted : Digest → Rebuilt
 accepted d = record { number = 0; digest = d }
 
 abbrev pub refused : Rebuilt
-refused = record { number = 9; digest = replicate digestLen 0 }
+refused = record { number = numberOf Malformed; digest = replicate digestLen 0 }
 
 -- one tree, and nothing left
 abbrev pub alone : Parsed → Rebuilt

@@ -1,4 +1,5 @@
 // Hash trees: the four digests, and the digest of a tree rebuilt from its written form.
+use answers::MALFORMED;
 use sha256::joined;
 ghost use mathlib.Core.Path.{_≡_};
 ghost use Prim.Native.Nat.{_+_, _-_, _≤_, _<_};
@@ -289,7 +290,7 @@ fn refuse() -> Rebuilt
     ensures { λ r. ⌜ r ≡ refused ⌝ }
 {
     Rebuilt {
-        number: 9,
+        number: MALFORMED,
         digest: [0u8; 32],
     }
 }

@@ -14,3 +14,4 @@ pub mod Demand
 pub mod Table
 pub mod Refusing
 pub mod Viewing
+pub mod Longest

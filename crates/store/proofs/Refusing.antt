@@ -1,13 +1,20 @@
 -- A refusal leaves all as found.
 use mathlib.Core.Path.{_≡_, refl}
-use mathlib.Core.Bool.{Bool, false, not, _||_}
+use mathlib.Core.Bool.{Bool, true, false, cond, not, _||_}
 use mathlib.Core.Logic.{_≢_}
-use mathlib.Core.List.{List}
+use mathlib.Core.List.{List, [], _∷_}
 use Prim.Native.Nat.{ℕ}
-use lib.Dec.{ltb, eqb}
-use lib.ListN.{length}
+use lib.Dec.{ltb, leb, eqb}
+use lib.ListN.{length, replicate}
+use Rattle.answers.specs.Numbers.{LongMessage, numberOf, maxMessage}
+use Rattle.sha256.specs.Hash.{sha256}
+use Rattle.sha256.specs.Hashed.{hashed}
+use Rattle.sha256.specs.declared.Hashed.{Hashed}
 use Rattle.slots.specs.Layout.{storeLength, zeros}
 use Rattle.hash_tree.specs.HashTree.{HashTree}
+use Rattle.hash_tree.specs.Written.{maxDepth}
+use Rattle.hash_tree.specs.Parse.{Parsed, Got, Bad, parse}
+use Rattle.hash_tree.specs.Whole.{rebuilt, alone}
 use Rattle.llrb.specs.Tree.{Entry, size}
 use Rattle.llrb.specs.Digests.{rootHash}
 use Rattle.witness_trees.specs.Witness.{asHashTree, keys, keyRange, valueRange, keysWithPrefix, witness}
@@ -47,8 +54,26 @@ witnessed-kept : (make : Model → Outcome HashTree) (s out : List ℕ) → Unwr
 unfolding witnessed
 witnessed-kept make s out = unwritten out (fitting out (onSound s make (refused NotSound)))
 
+rebuilt-none : (z : Parsed) → alone z .number ≢ 0 → alone z .digest ≡ zeros 32
+unfolding zeros
+rebuilt-none (Got t []) n = absurd (n refl)
+rebuilt-none (Got t (x ∷ rest)) n = refl
+rebuilt-none Bad n = refl
+
+-- what hash answers, whether the message is short enough being any
+abbrev pub hashedIf : Bool → List ℕ → Hashed
+hashedIf b message = cond b (record { number = 0; digest = sha256 message }) (record { number = numberOf LongMessage; digest = replicate 32 0 })
+
+hashed-none : (message : List ℕ) → hashed message .number ≢ 0 → hashed message .digest ≡ zeros 32
+unfolding hashed zeros
+hashed-none message = at (leb (length message) maxMessage)
+  where
+    at : (b : Bool) → hashedIf b message .number ≢ 0 → hashedIf b message .digest ≡ zeros 32
+    at true n = absurd (n refl)
+    at false n = refl
+
 pub demand-1 : (s : List ℕ) → Demand1 s
-unfolding createAnswer isEmptyAnswer countAnswer rootHashAnswer getAnswer firstEntryAnswer nextEntryAnswer insertAnswer modifyAnswer deleteAnswer asHashTreeAnswer keysAnswer witnessAnswer keysWithPrefixAnswer keyRangeAnswer valueRangeAnswer
+unfolding createAnswer isEmptyAnswer countAnswer rootHashAnswer getAnswer firstEntryAnswer nextEntryAnswer insertAnswer modifyAnswer deleteAnswer asHashTreeAnswer keysAnswer witnessAnswer keysWithPrefixAnswer keyRangeAnswer valueRangeAnswer rebuilt
 demand-1 s =
     record {
       create = λ capacity. kept s (refuse (eqb capacity 0 || (ltb 1024 capacity || not (eqb (length s) (storeLength capacity)))) BadCapacity (done (fresh capacity)));
@@ -67,4 +92,6 @@ demand-1 s =
       keysWithPrefix = λ prefix out. witnessed-kept (ofKey keysWithPrefix prefix) s out;
       keyRange = λ first last out. witnessed-kept (ofRange keyRange first last) s out;
       valueRange = λ first last out. witnessed-kept (ofRange valueRange first last) s out;
+      rebuild = λ w. rebuilt-none (parse maxDepth w);
+      hash = hashed-none;
     }

@@ -4,23 +4,28 @@ use mathlib.Core.Bool.{Bool, true, false, cond, not, _&&_, _||_}
 use mathlib.Core.List.{List, [], _∷_}
 use mathlib.Core.Option.{Option, none, some}
 use Prim.Native.Nat.{ℕ}
-use lib.Dec.{ltb, eqb}
+use lib.Dec.{ltb, leb, eqb}
 use lib.ListN.{length}
+use Rattle.answers.specs.Numbers.{maxMessage}
+use Rattle.sha256.specs.Hashed.{hashed}
 use Rattle.slots.specs.Layout.{storeLength}
 use Rattle.hash_tree.specs.HashTree.{HashTree}
-use Rattle.hash_tree.specs.Written.{write}
+use Rattle.hash_tree.specs.Written.{write, maxDepth}
+use Rattle.hash_tree.specs.Parse.{Parsed, Got, Bad, parse}
+use Rattle.hash_tree.specs.Whole.{rebuilt, alone}
 use Rattle.llrb.specs.Tree.{Entry, entries, size, get}
 use Rattle.llrb.specs.Digests.{rootHash}
 use Rattle.llrb.specs.Iterate.{headOf, firstAbove}
 use Rattle.witness_trees.specs.Witness.{asHashTree, keys, keyRange, valueRange, keysWithPrefix, witness}
-use Rattle.store.specs.Numbers.{NotSound, LongKey, LongValue, Reversed, Full, NoRoom, Absent, BadCapacity, numberOf, Outcome, refused, done}
+use Rattle.store.specs.Numbers.{NotSound, LongKey, LongValue, Reversed, Full, NoRoom, Absent, BadCapacity, Malformed, LongMessage, numberOf, Outcome, refused, done}
 use Rattle.store.specs.Model.{Model, fresh, inserted, modified, deleted}
 use Rattle.store.specs.Sound.{Represents}
 use Rattle.store.specs.Decode.{decode}
 use Rattle.store.specs.Decide.{represents?, onSound}
 use Rattle.store.specs.Answers.{told, counted, digested, found, changed, written, fitting}
 use Rattle.store.specs.Calls.{refuse, longKey, longValue, crossedRange, isNone, absent, noFreeSlot, entryOr, getIn, firstIn as firstEntryIn, nextIn, insertIn, modifyIn, deleteIn, ofKey, ofRange, witnessed, createAnswer, isEmptyAnswer, countAnswer, rootHashAnswer, getAnswer, firstEntryAnswer, nextEntryAnswer, insertAnswer, modifyAnswer, deleteAnswer, asHashTreeAnswer, keysAnswer, witnessAnswer, keysWithPrefixAnswer, keyRangeAnswer, valueRangeAnswer}
-use Rattle.store.specs.Table.{Row, when, applies, firstIn, notSound, shorter, Table}
+use Rattle.store.specs.Table.{Row, when, applies, firstIn, notSound, shorter, malformed, Table}
+use Rattle.store.proofs.Refusing.{hashedIf}
 use Rattle.store.proofs.Decoding.{on-sound, on-unsound, sound-decodes}
 
 -- 1 comes first, and is given exactly for a store that is not sound
@@ -90,10 +95,23 @@ create-number : (s : List ℕ) (b : Bool) (n : Model) → changed s (refuse b Ba
 create-number s true n = refl
 create-number s false n = refl
 
+rebuild-number : (z : Parsed) → alone z .number ≡ cond (malformed z) (numberOf Malformed) 0
+rebuild-number (Got t []) = refl
+rebuild-number (Got t (x ∷ rest)) = refl
+rebuild-number Bad = refl
+
+hash-number : (message : List ℕ) → hashed message .number ≡ cond (not (leb (length message) maxMessage)) (numberOf LongMessage) 0
+unfolding hashed
+hash-number message = at (leb (length message) maxMessage)
+  where
+    at : (b : Bool) → hashedIf b message .number ≡ cond (not b) (numberOf LongMessage) 0
+    at true = refl
+    at false = refl
+
 -- ---- the table
 
 pub table : (s : List ℕ) → Table s
-unfolding isEmptyAnswer countAnswer rootHashAnswer getAnswer firstEntryAnswer nextEntryAnswer insertAnswer modifyAnswer deleteAnswer asHashTreeAnswer keysAnswer witnessAnswer keysWithPrefixAnswer keyRangeAnswer valueRangeAnswer createAnswer witnessed fitting getIn firstEntryIn nextIn insertIn modifyIn deleteIn ofKey ofRange
+unfolding isEmptyAnswer countAnswer rootHashAnswer getAnswer firstEntryAnswer nextEntryAnswer insertAnswer modifyAnswer deleteAnswer asHashTreeAnswer keysAnswer witnessAnswer keysWithPrefixAnswer keyRangeAnswer valueRangeAnswer createAnswer witnessed fitting getIn firstEntryIn nextIn insertIn modifyIn deleteIn ofKey ofRange rebuilt
 table s =
     let m = decode s in
     record {
@@ -137,4 +155,6 @@ table s =
           (range-number out (longKey first || longKey last) (crossedRange first last (m .tree)) (valueRange first last (m .tree)));
       create = λ capacity.
           create-number s (eqb capacity 0 || (ltb 1024 capacity || not (eqb (length s) (storeLength capacity)))) (fresh capacity);
+      rebuild = λ w. rebuild-number (parse maxDepth w);
+      hash = hash-number;
     }

@@ -7,6 +7,7 @@ use mathlib.Core.Option.{Option, none, some}
 use Prim.Native.Nat.{ℕ, _+_, _≤_}
 use lib.ListN.{length, take, drop}
 use Rattle.key_order.specs.Order.{Key}
+use Rattle.sha256.specs.Hashed.{hashed}
 use Rattle.hash_tree.specs.HashTree.{HashTree}
 use Rattle.hash_tree.specs.Written.{write, maxDepth, Lawful}
 use Rattle.hash_tree.specs.Whole as whole
@@ -54,6 +55,8 @@ pub record Demand1 (s : List ℕ) : Type 0 where
   pub keysWithPrefix : (prefix : Key) (out : List ℕ) → Unwritten out (keysWithPrefixAnswer prefix s out)
   pub keyRange : (first last : Key) (out : List ℕ) → Unwritten out (keyRangeAnswer first last s out)
   pub valueRange : (first last : Key) (out : List ℕ) → Unwritten out (valueRangeAnswer first last s out)
+  pub rebuild : (w : List ℕ) → whole.rebuilt w .number ≢ 0 → whole.rebuilt w .digest ≡ zeros 32
+  pub hash : (message : List ℕ) → hashed message .number ≢ 0 → hashed message .digest ≡ zeros 32
 
 -- ---- demand 3
 

@@ -15,4 +15,5 @@ pub mod Calls
 pub mod Table
 pub mod History
 pub mod Demand
+pub mod Longest
 pub mod Viewed

@@ -4,16 +4,20 @@ use mathlib.Core.Path.{_≡_}
 use mathlib.Core.Bool.{Bool, true, false, cond, not, _&&_, _||_}
 use mathlib.Core.List.{List, [], _∷_}
 use Prim.Native.Nat.{ℕ}
-use lib.Dec.{ltb, eqb}
+use lib.Dec.{ltb, leb, eqb}
 use lib.ListN.{length}
+use Rattle.answers.specs.Numbers.{maxMessage}
 use Rattle.key_order.specs.Order.{Key}
+use Rattle.sha256.specs.Hashed.{hashed}
 use Rattle.slots.specs.Layout.{storeLength}
 use Rattle.hash_tree.specs.HashTree.{HashTree}
-use Rattle.hash_tree.specs.Written.{write}
+use Rattle.hash_tree.specs.Written.{write, maxDepth}
+use Rattle.hash_tree.specs.Parse.{Parsed, Got, Bad, parse}
+use Rattle.hash_tree.specs.Whole.{rebuilt}
 use Rattle.llrb.specs.Tree.{Value, entries}
 use Rattle.llrb.specs.Iterate.{headOf, firstAbove}
 use Rattle.witness_trees.specs.Witness.{asHashTree, keys, keyRange, valueRange, keysWithPrefix, witness}
-use Rattle.store.specs.Numbers.{Refusal, NotSound, LongKey, LongValue, Reversed, Full, NoRoom, Absent, BadCapacity, numberOf}
+use Rattle.store.specs.Numbers.{Refusal, NotSound, LongKey, LongValue, Reversed, Full, NoRoom, Absent, BadCapacity, Malformed, LongMessage, numberOf}
 use Rattle.store.specs.Decode.{decode}
 use Rattle.store.specs.Decide.{onSound}
 use Rattle.store.specs.Calls.{longKey, longValue, crossedRange, isNone, absent, noFreeSlot, createAnswer, isEmptyAnswer, countAnswer, rootHashAnswer, getAnswer, firstEntryAnswer, nextEntryAnswer, insertAnswer, modifyAnswer, deleteAnswer, asHashTreeAnswer, keysAnswer, witnessAnswer, keysWithPrefixAnswer, keyRangeAnswer, valueRangeAnswer}
@@ -50,6 +54,12 @@ notSound s = when NotSound (onSound s (λ m. false) true)
 abbrev pub shorter : (out : List ℕ) → HashTree → Row
 shorter out t = when NoRoom (ltb (length out) (length (write t)))
 
+-- not one tree and nothing after it
+abbrev pub malformed : Parsed → Bool
+malformed (Got t []) = false
+malformed (Got t (x ∷ rest)) = true
+malformed Bad = true
+
 -- of the bytes s, what each call answers
 pub record Table (s : List ℕ) : Type 0 where
   pub isEmpty : isEmptyAnswer s .number ≡ firstIn (notSound s ∷ [])
@@ -81,3 +91,6 @@ pub record Table (s : List ℕ) : Type 0 where
   -- create alone answers 8, and nothing else
   pub create : (capacity : ℕ)
       → createAnswer capacity s .number ≡ cond (eqb capacity 0 || (ltb 1024 capacity || not (eqb (length s) (storeLength capacity)))) (numberOf BadCapacity) 0
+  -- rebuild answers 9 and hash 10, of bytes that are no store's
+  pub rebuild : (w : List ℕ) → rebuilt w .number ≡ cond (malformed (parse maxDepth w)) (numberOf Malformed) 0
+  pub hash : (message : List ℕ) → hashed message .number ≡ cond (not (leb (length message) maxMessage)) (numberOf LongMessage) 0
