@@ -10,6 +10,7 @@ out=
 case ${1-} in
 set | add | unset) out=${2-} ;;
 build | witness | range | prefix | full) out=${3-} ;;
+merge) out=${4-} ;;
 esac
 mode=
 if [ -n "$out" ] && [ "$out" != - ] && [ -e "$out" ]; then
@@ -24,6 +25,7 @@ if [ -n "$out" ] && [ "$out" != - ] && [ -e "$out" ]; then
         command=$1
         case $command in
         set | add | unset) shift 2; set -- "$command" "$real" "$@" ;;
+        merge) one=$2 other=$3; shift 4; set -- merge "$one" "$other" "$real" "$@" ;;
         *) from=$2; shift 3; set -- "$command" "$from" "$real" "$@" ;;
         esac
     fi

@@ -179,6 +179,35 @@ for w in "$top"/examples/*.witness all.w low.w r.w; do
 done
 holds 'verify.py takes a wrong digest' bash -c "! python3 '$top/examples/verify.py' one.w ${D%9}8 >/dev/null"
 
+# ---- ask and merge
+fresh
+"$tool" witness u.store ask.w 008.CTRL >/dev/null
+"$tool" range u.store hole.w 00d 013 >/dev/null
+try 0 '008.CTRL = ' ask ask.w $D 008.CTRL
+try 0 'there is no register 010' ask hole.w $D 010
+try 1 'does not say' ask ask.w $D 010
+try 1 'does not match' ask ask.w ${D%9}8 008.CTRL
+cp ask.w kept.w
+try 0 $D merge ask.w hole.w both.w
+try 0 '008.CTRL = ' ask both.w $D 008.CTRL
+try 0 'there is no register 010' ask both.w $D 010
+holds 'a merge changed its input' cmp -s ask.w kept.w
+"$tool" merge hole.w ask.w turned.w >/dev/null
+holds 'the order of two witnesses matters' cmp -s both.w turned.w
+printf '004.A 00\n' >other.map && "$tool" build other.map o.store >/dev/null && "$tool" full o.store o.w >/dev/null
+try 1 '(15)' merge ask.w o.w none.w
+holds 'a refused merge wrote' test ! -e none.w
+try 2 'is no witness' merge ask.w hole.w uart.map
+chmod 600 both.w && "$tool" merge ask.w hole.w both.w >/dev/null
+holds 'merge changed a mode' test "$(stat -c %a both.w)" = 600
+ln -sf both.w link.w && "$tool" merge ask.w ask.w link.w >/dev/null
+holds 'merge wrote over a link' test -L link.w
+holds 'merge with itself' cmp -s both.w ask.w
+chmod 400 both.w
+try 2 'may not be written' merge ask.w hole.w both.w
+holds 'a file that may not be written was' cmp -s both.w ask.w
+chmod 600 both.w
+
 # ---- the page: no script in it, and where Chromium is there it draws it
 "$tool" html ctrl.w $D >page.html
 holds 'a script in the page' bash -c '! grep -qi "<script" page.html'
