@@ -11,11 +11,12 @@ cd "$room" || exit 2
 D=49c1d66f39002ec817bc0751bedc5f0dce7ae6c863029a6ce83cf7fd523e4139
 passed=0 failed=0
 
-# try STATUS TEXT WORDS..: the tool's status, and a text that it must have printed on either output ('' for any).
+# try STATUS TEXT WORDS..: the tool's status, and a text that it must have printed on either output ('' for any). Its standard input is the
+# file $in, if that is set.
 try() {
   local status=$1 text=$2 got
   shift 2
-  "$tool" "$@" >out 2>err </dev/null
+  "$tool" "$@" >out 2>err <"${in:-/dev/null}"
   got=$?
   if [ "$got" = "$status" ] && { [ -z "$text" ] || grep -qF -e "$text" out err; }; then passed=$((passed + 1)); return 0; fi
   failed=$((failed + 1))
@@ -207,6 +208,37 @@ chmod 400 both.w
 try 2 'may not be written' merge ask.w hole.w both.w
 holds 'a file that may not be written was' cmp -s both.w ask.w
 chmod 600 both.w
+
+# ---- check -: a witness as it comes, of any length, up to the first byte that makes it none
+fresh
+"$tool" full u.store f.w >/dev/null
+in=f.w try 0 '12 registers shown with their values' check - $D
+in=f.w try 1 'does not match' check - ${D%9}8
+in=f.w try 0 '"matches": true' check - $D --json
+head -c 100 f.w >cut.w && in=cut.w try 1 'it ended after 100 bytes' check - $D
+in=/dev/null try 1 'it ended after 0 bytes' check - $D
+{ cat f.w; echo; } >more.w && in=more.w try 1 'the byte at offset 296 makes it no witness' check - $D
+in=u.store try 1 'is a store and no witness' check - $D
+in=u.store try 1 'the byte at offset 0 makes it no witness' check - $D
+in=$room try 2 'it is a folder' check - $D
+for n in 1 7 100; do
+  python3 -c "import sys,time
+w=open('f.w','rb').read()
+for i in range(0,len(w),$n): sys.stdout.buffer.write(w[i:i+$n]); sys.stdout.flush(); time.sleep(0.001)" | "$tool" check - $D >out 2>err
+  holds "check - of parts of $n bytes" grep -q '12 registers shown' out
+done
+{ printf '\140\101'; yes; } | timeout 60 "$tool" check - $D >out 2>err
+holds 'check - does not stop' grep -q 'the byte at offset 1 makes it no witness' err
+python3 -c "import hashlib,sys
+h=lambda tag,*b: hashlib.sha256(bytes([len(tag)])+tag+b''.join(b)).digest()
+w,d=b'\x60\x40'+bytes(64),h(b'ic-hashtree-leaf',bytes(64))
+for i in range(14): w,d=b'\x20\0'+w+w,h(b'ic-hashtree-fork',d,d)
+open('long.w','wb').write(w); open('long.digest','w').write(d.hex())"
+in=long.w try 0 '1114110 bytes: too long for its registers to be counted' check - "$(cat long.digest)"
+in=long.w try 1 'does not match' check - $D
+in=long.w try 2 'too long for --json' check - "$(cat long.digest)" --json
+cat long.w long.w >two.w && in=two.w try 1 'the byte at offset 1114110 makes it no witness' check - $D
+try 2 'is too long' check long.w $D
 
 # ---- the page: no script in it, and where Chromium is there it draws it
 "$tool" html ctrl.w $D >page.html

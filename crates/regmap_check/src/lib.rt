@@ -1,4 +1,7 @@
 // Commands that check, show, ask and merge witnesses: they need no store.
+mod stream;
+
+use crate::stream::check_stream;
 use hash_tree::rebuild;
 use merge::merge;
 use regmap_ask::Told;
@@ -84,21 +87,33 @@ fn say_other(path: &[u8], digest: &[u8], err: i32) -> usize {
     REFUSED
 }
 
+// A witness with its digest, against the one that is wanted.
+fn compared(
+    path: &[u8],
+    wanted: &[u8],
+    json: bool,
+    digest: &[u8],
+    witness: &[u8],
+    err: i32,
+) -> usize {
+    let same = is_wanted(digest, wanted);
+    if json {
+        json::check(digest, same, counted(witness));
+        return if same { DONE } else { REFUSED };
+    }
+    if same {
+        return say_match(path, witness);
+    }
+    say_other(path, digest, err)
+}
+
 fn check(path: &[u8], wanted: &[u8], json: bool, witness: &[u8], err: i32) -> usize {
     let r = rebuild(witness);
     if r.number != 0 {
         return no_witness(path, witness, err);
     }
     let digest = r.digest;
-    let same = is_wanted(&digest, wanted);
-    if json {
-        json::check(&digest, same, counted(witness));
-        return if same { DONE } else { REFUSED };
-    }
-    if same {
-        return say_match(path, witness);
-    }
-    say_other(path, &digest, err)
+    compared(path, wanted, json, &digest, witness, err)
 }
 
 // ---- showing
@@ -301,6 +316,9 @@ fn check_list(path: &[u8], err: i32) -> usize {
 pub fn inspect(kind: usize, line: &[u8], err: i32) -> usize {
     if is(word(line, 1), b"-c") {
         return check_list(word(line, 2), err);
+    }
+    if kind == kinds::CHECK && is(word(line, 1), b"-") {
+        return check_stream(word(line, 2), is_json(line), err);
     }
     let mut buf = [0u8; 524_288];
     let Loaded::Whole(n) = load(word(line, 1), &mut buf, err) else {

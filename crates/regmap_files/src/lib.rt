@@ -29,7 +29,7 @@ fn reason(error: i32) -> usize {
 }
 
 // Says why the last call failed.
-fn trouble(err: i32, what: &[u8], path: &[u8]) {
+pub fn trouble(err: i32, what: &[u8], path: &[u8]) {
     let k = reason(os::errno());
     say3(err, b"regmap: can't ", what, path);
     say3(err, b": ", word(&REASONS, k), b".\n");
