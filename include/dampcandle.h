@@ -16,9 +16,9 @@
  * A store is 8 + 150 x capacity bytes (DAMPCANDLE_STORE_LENGTH), with room for capacity entries. It holds no pointers: it may be copied,
  * kept in a file and lent at another place. Every call judges it anew, all of it, and answers 1 unless it is sound.
  *
- * Stack, measured on x86-64 over a store of 1,024 entries with the longest keys and values (scripts/c-stack.sh): create 40 bytes, hash 1,336;
- * is_empty, count, root_hash, get, first_entry, next_entry, insert, modify and delete up to 6,100; the witness calls up to 12,100;
- * rebuild 14,600 for a store's own witness, and up to 46,300 for bytes that are nested 64 records deep. Nothing is allocated.
+ * Stack, measured on x86-64 over a store of 1,024 entries with the longest keys and values (scripts/c-stack.sh): create 8 bytes, hash 1,100;
+ * is_empty, count, root_hash, get, first_entry, next_entry, insert, modify, delete and replay up to 6,700; the witness calls up to 8,300;
+ * rebuild 9,000 for a store's own witness, and up to 27,000 for bytes that are nested 64 records deep. Nothing is allocated.
  *
  * Keys are byte strings of 0 to 48 bytes, in the order of their bytes as unsigned numbers, a proper prefix being smaller. Values are
  * byte strings of 0 to 64 bytes. */
