@@ -1,7 +1,7 @@
 /* Dampcandle: a register map in bytes that the caller lends, with witnesses. Link libc_boundary.a (rt staticlib c_boundary, x86-64).
  *
  * Every call answers a number: 0 if it is done, else why it is refused (enum dampcandle_number). Where several apply, it is the first
- * of 1, 2, 3, 4, 7, 5, 6. Each call is one function of the bytes and numbers that it is lent, and it ends, whatever they are; it keeps
+ * of 1, 13, 2, 3, 4, 7, 5, 6. Each call is one function of the bytes and numbers that it is lent, and it ends, whatever they are; it keeps
  * nothing between calls, so calls on different stores may run at the same time.
  *
  * What a call answers beside its number goes through pointers. A refusal changes nothing: each byte of the store and of the output, and
@@ -16,9 +16,9 @@
  * A store is 8 + 150 x capacity bytes (DAMPCANDLE_STORE_LENGTH), with room for capacity entries. It holds no pointers: it may be copied,
  * kept in a file and lent at another place. Every call judges it anew, all of it, and answers 1 unless it is sound.
  *
- * Stack, measured on x86-64 over a store of 1,024 entries with the longest keys and values (scripts/c-stack.sh): create 40 bytes, hash 1,336;
- * is_empty, count, root_hash, get, first_entry, next_entry, insert, modify and delete up to 6,100; the witness calls up to 12,100;
- * rebuild 14,600 for a store's own witness, and up to 46,300 for bytes that are nested 64 records deep. Nothing is allocated.
+ * Stack, measured on x86-64 over a store of 1,024 entries with the longest keys and values (scripts/c-stack.sh): create 8 bytes, hash 1,100;
+ * is_empty, count, root_hash, get, first_entry, next_entry, insert, modify, delete and replay up to 6,700; the witness calls up to 8,300;
+ * rebuild 9,000 for a store's own witness, and up to 27,000 for bytes that are nested 64 records deep. Nothing is allocated.
  *
  * Keys are byte strings of 0 to 48 bytes, in the order of their bytes as unsigned numbers, a proper prefix being smaller. Values are
  * byte strings of 0 to 64 bytes. */
@@ -52,6 +52,7 @@ enum dampcandle_number {
   DAMPCANDLE_MALFORMED = 9,    /* rebuild: the bytes are not exactly one witness */
   DAMPCANDLE_LONG_MESSAGE = 10, /* hash: the message is longer than 65,536 bytes */
   DAMPCANDLE_ILL_FORMED = 11,  /* lookup: the witness breaks the Interface Specification's rule for well-formed trees */
+  DAMPCANDLE_BAD_LOG = 13,     /* replay: the build log is malformed */
   DAMPCANDLE_UNLIKE = 15       /* merge: the two are not witnesses of one release */
 };
 
@@ -106,6 +107,12 @@ size_t dampcandle_modify(uint8_t *store, size_t store_length, const uint8_t *key
 
 /* Takes an entry out. 0, 1, 2 or 7. */
 size_t dampcandle_delete(uint8_t *store, size_t store_length, const uint8_t *key, size_t key_length);
+
+/* Runs a build log: one call for each of its records, in order, and the store is judged once. A record has two bytes, then key and value. The
+ * first byte is operation x 64 + key length (operation 0 insert, 1 modify, 2 delete), the second value length x 2; a delete has no value.
+ * A record that finds no room (5) or no entry of its key (7) changes nothing and the run goes on: full and absent count them. 0, 1 or 13; a
+ * malformed log changes nothing. */
+size_t dampcandle_replay(uint8_t *store, size_t store_length, const uint8_t *log, size_t log_length, size_t *full, size_t *absent);
 
 /* ---- witnesses: each fills the front of the output and tells its length; the rest of the output stays. All rebuild to the root digest.
  * A neighbour is the nearest key below or above one that is not there; its value is always cut to a digest. */
@@ -206,6 +213,7 @@ static inline const char *dampcandle_text(size_t number) {
     case DAMPCANDLE_MALFORMED: return "the bytes are not exactly one witness";
     case DAMPCANDLE_LONG_MESSAGE: return "the message is longer than 65,536 bytes";
     case DAMPCANDLE_ILL_FORMED: return "the witness is not well-formed";
+    case DAMPCANDLE_BAD_LOG: return "the build log is malformed";
     case DAMPCANDLE_UNLIKE: return "these are not two witnesses of one release";
     default: return "a number that this header does not know";
   }

@@ -128,6 +128,19 @@ answers("create 2", "0")
 for line, number in [("insert 61 01", 0), ("insert 62 02", 0), ("insert 61 03", 0), ("insert 63 04", 5), ("delete 61", 0), ("insert 63 04", 0)]:
     answers(line, str(number))
 answers("count", "0 2")
+say("# build logs on a store of one slot: insert a; insert b, modify b, delete a; each fault, and a byte after a good record")
+answers("buffer 158", "ok")
+answers("create 1", "0")
+for log, answer in [
+    ("-", "0 0 0"), ("01026107", "0 0 0"), ("0102620841026209810061", "0 1 1"), ("01026107", "0 0 0"),
+    ("c1026107", "13 0 0"), ("31" + "00" + "61" * 49, "13 0 0"), ("018261" + "07" * 65, "13 0 0"), ("81026107", "13 0 0"), ("01036107", "13 0 0"),
+    ("010261", "13 0 0"), ("01", "13 0 0"), ("010261070", "?"), ("0102610700", "13 0 0"), ("8100610102610301", "13 0 0"),
+    ("3000" + "61" * 48, "0 1 0"), ("0180" + "61" + "07" * 64, "0 0 0"),
+]:
+    answers("replay " + log, answer)
+    say("sum")
+answers("poke 0 11", "ok")
+answers("replay 01", "1 0 0")
 say("# value_range a to c: 22 bytes of output do, 21 are too few")
 answers("buffer 458", "ok")
 answers("create 3", "0")

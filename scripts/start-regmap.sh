@@ -8,7 +8,7 @@ start=$1 name=$2
 shift 2
 out=
 case ${1-} in
-set | add | unset) out=${2-} ;;
+set | add | unset | replay) out=${2-} ;;
 build | witness | range | prefix | full) out=${3-} ;;
 merge) out=${4-} ;;
 esac
@@ -24,7 +24,7 @@ if [ -n "$out" ] && [ "$out" != - ] && [ -e "$out" ]; then
         umask 077
         command=$1
         case $command in
-        set | add | unset) shift 2; set -- "$command" "$real" "$@" ;;
+        set | add | unset | replay) shift 2; set -- "$command" "$real" "$@" ;;
         merge) one=$2 other=$3; shift 4; set -- merge "$one" "$other" "$real" "$@" ;;
         *) from=$2; shift 3; set -- "$command" "$from" "$real" "$@" ;;
         esac

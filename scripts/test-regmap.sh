@@ -239,6 +239,39 @@ in=long.w try 1 'does not match' check - $D
 in=long.w try 2 'too long for --json' check - "$(cat long.digest)" --json
 cat long.w long.w >two.w && in=two.w try 1 'the byte at offset 1114110 makes it no witness' check - $D
 try 2 'is too long' check long.w $D
+# ---- build logs
+fresh && cp u.store kept.store && cp "$top/examples/uart.log" .
+try 0 'modify 00c.BAUD 000c180300000d05' log uart.log
+holds 'log prints a line a record' test "$(wc -l <out)" = 5
+try 0 '5 records: 1 found no room, 1 no register' replay u.store uart.log
+holds 'replay changed nothing' bash -c '! cmp -s u.store kept.store'
+try 0 '12 registers, root' replay u.store uart.log
+try 1 'refused (7)' get u.store 02c.TIMEOUT
+try 0 '0010080300000000' get u.store 010.MODEM
+cp u.store kept.store
+head -c 87 uart.log >cut.log
+try 1 'record 5, at byte 67, is malformed: it is cut short' replay u.store cut.log
+holds 'a malformed log changed the store' cmp -s u.store kept.store
+holds 'a refused replay left its lock' test ! -e u.store.new
+for case in '\301\002a\007:its operation is 3' '\061\000:its name is longer' '\001\202a:its value is longer' '\201\002a\007:a delete with a value' '\001\003a\007:its last bit is set' '\001:cut short'; do
+  printf "\201\000a${case%%:*}" >bad.log
+  try 1 "record 2, at byte 3, is malformed" replay u.store bad.log
+  try 1 "${case#*:}" log bad.log
+  holds "a malformed log changed the store: ${case#*:}" cmp -s u.store kept.store
+done
+: >none.log
+try 0 '0 records: 0 found no room, 0 no register' replay u.store none.log
+try 0 '' log none.log
+try 1 'refused (1)' replay uart.map cut.log
+try 2 '' replay u.store missing.log
+try 2 'too few words: replay STORE LOG' replay u.store
+ln -sf u.store link.store && "$tool" replay link.store uart.log >/dev/null
+holds 'replay wrote over a link' test -L link.store
+cp kept.store u.store && chmod 400 u.store
+try 2 'may not be written' replay u.store uart.log
+holds 'a file that may not be written was' cmp -s u.store kept.store
+chmod 600 u.store
+holds 'a log from standard input' bash -c "'$tool' replay u.store - <uart.log | grep -q '5 records'"
 
 # ---- the page: no script in it, and where Chromium is there it draws it
 "$tool" html ctrl.w $D >page.html

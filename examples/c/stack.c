@@ -23,6 +23,21 @@ static void name(uint8_t *k, unsigned i) {
   k[47] = (uint8_t)i;
 }
 
+/* all entries taken out, and put in again */
+static uint8_t build_log[ENTRIES * (50 + 114)];
+static size_t log_length;
+
+static void write_log(void) {
+  for (unsigned pass = 0; pass < 2; pass++) {
+    for (unsigned i = 0; i < ENTRIES; i++) {
+      build_log[log_length] = pass ? 48 : 2 * 64 + 48;
+      build_log[log_length + 1] = pass ? 128 : 0;
+      name(build_log + log_length + 2, i * 387 % ENTRIES);
+      log_length += pass ? 114 : 50;
+    }
+  }
+}
+
 static void none(void) {}
 static void create(void) { number = dampcandle_create(store, LENGTH, ENTRIES); }
 static void is_empty(void) { number = dampcandle_is_empty(store, LENGTH, &yes); }
@@ -34,6 +49,7 @@ static void next_entry(void) { number = dampcandle_next_entry(store, LENGTH, key
 static void insert(void) { number = dampcandle_insert(store, LENGTH, key, 48, value, 64); }
 static void modify(void) { number = dampcandle_modify(store, LENGTH, key, 48, value, 64); }
 static void delete(void) { number = dampcandle_delete(store, LENGTH, key, 48); }
+static void replay(void) { number = dampcandle_replay(store, LENGTH, build_log, log_length, at, at + 1); }
 static void as_hash_tree(void) { number = dampcandle_as_hash_tree(store, LENGTH, out, sizeof out, &length); }
 static void keys(void) { number = dampcandle_keys(store, LENGTH, out, sizeof out, &length); }
 static void witness(void) { number = dampcandle_witness(store, LENGTH, key, 48, out, sizeof out, &length); }
@@ -88,6 +104,8 @@ int main(void) {
   measure("first_entry", first_entry, 0);
   measure("next_entry", next_entry, 0);
   measure("modify", modify, 0);
+  write_log();
+  measure("replay", replay, 0);
   measure("as_hash_tree", as_hash_tree, 0);
   memcpy(whole, out, sizeof whole);
   whole_length = length;

@@ -218,6 +218,35 @@ static void capacities(void) {
   answers(0, dampcandle_create(large, DAMPCANDLE_STORE_LENGTH(1024), 1024), "create, capacity 1,024");
 }
 
+/* ---- a build log */
+
+static void replays(void) {
+  const uint8_t make[] = {0x01, 0x02, 'a', 7}; /* insert a -> 07 */
+  const uint8_t three[] = {0x01, 0x02, 'b', 8, 0x41, 0x02, 'b', 9, 0x81, 0x00, 'a'}; /* insert b, modify b, delete a */
+  const uint8_t valued[] = {0x81, 0x02, 'a', 7}; /* a delete with a value */
+  uint8_t one[DAMPCANDLE_STORE_LENGTH(1)] = {0}, kept[sizeof one];
+  size_t full = 78, absent = 79;
+  bool empty = false;
+  answers(0, dampcandle_create(one, sizeof one, 1), "create, capacity 1");
+  answers(13, dampcandle_replay(one, sizeof one, make, 3, &full, &absent), "replay, a record cut short");
+  answers(13, dampcandle_replay(one, sizeof one, valued, sizeof valued, &full, &absent), "replay, a delete with a value");
+  expect(full == 78 && absent == 79, "a refusal changed a count");
+  answers(0, dampcandle_is_empty(one, sizeof one, &empty), "is_empty");
+  expect(empty, "a malformed log changes nothing");
+  answers(0, dampcandle_replay(one, sizeof one, make, sizeof make, &full, &absent), "replay: insert a");
+  expect(full == 0 && absent == 0, "all done");
+  answers(0, dampcandle_replay(one, sizeof one, three, sizeof three, &full, &absent), "replay: insert b, modify b, delete a");
+  printf("   %zu found no room, %zu no entry\n", full, absent);
+  expect(full == 1 && absent == 1, "one 5 and one 7");
+  answers(0, dampcandle_is_empty(one, sizeof one, &empty), "is_empty");
+  expect(empty, "a is gone");
+  memcpy(kept, one, sizeof one);
+  one[0] ^= 1;
+  answers(1, dampcandle_replay(one, sizeof one, make, 3, &full, &absent), "replay, the store not sound and the log malformed");
+  one[0] ^= 1;
+  expect(!memcmp(one, kept, sizeof one), "a refusal changed the store");
+}
+
 int main(void) {
   puts("Dampcandle " DAMPCANDLE_VERSION);
   fill();
@@ -227,6 +256,7 @@ int main(void) {
   refusals();
   known();
   capacities();
+  replays();
   puts("as expected");
   return 0;
 }

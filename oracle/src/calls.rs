@@ -1,5 +1,6 @@
 //! The program `calls`, a line at a time, answered by the Rust's own map.
 use crate::hash_tree::{rebuild, HashTree};
+use crate::logs::{edits, Edit};
 use crate::readings::{ask, merge, Parts};
 use crate::rb_tree::AsHashTree;
 use crate::sha256::sha256;
@@ -132,6 +133,26 @@ impl Calls {
         }
     }
 
+    /// One call for each record of a log that can be read.
+    fn replay(&mut self, log: &[u8]) -> String {
+        if self.sound().is_none() {
+            return "1 0 0".into();
+        }
+        let Some(edits) = edits(log) else { return "13 0 0".into() };
+        let (mut fives, mut sevens) = (0, 0);
+        for edit in edits {
+            let number = match edit {
+                Edit::Insert(key, value) => self.insert(key, value),
+                Edit::Modify(key, value) => self.modify(key, value),
+                Edit::Delete(key) => self.delete(key),
+            };
+            self.changed(number);
+            fives += usize::from(number == 5);
+            sevens += usize::from(number == 7);
+        }
+        format!("0 {fives} {sevens}")
+    }
+
     fn found(&mut self, key: &[u8], pick: impl Fn(&Store) -> Option<Vec<u8>>) -> String {
         match self.ready(&[key], &[]) {
             Err(n) => format!("{n} 0 0 0 0"),
@@ -216,6 +237,7 @@ impl Calls {
                 let n = self.delete(&unhex(k)?);
                 self.changed(n)
             }
+            ["replay", log] => self.replay(&unhex(log)?),
             ["get", k] => {
                 let key = unhex(k)?;
                 self.found(&key, |s| s.map.get(&key).map(|_| key.clone()))

@@ -3,6 +3,7 @@
 use crate::calls::{crossed, hex};
 use crate::hash_tree::{empty, fork, labeled, leaf, pruned, HashTree, HashTreeNode};
 use crate::lies::damaged;
+use crate::logs::log;
 use crate::rb_tree::AsHashTree;
 use crate::script::Random;
 use crate::store::Store;
@@ -201,7 +202,7 @@ fn shown(r: &mut Random, store: &Store) -> [String; 2] {
 
 /// A line that is none, or one that breaks a rule of its words.
 fn broken(r: &mut Random) -> Vec<u8> {
-    let words = ["insert", "load", "poke", "room", "create", "get", "krange", "sum", "rebuild", "61", "6", "-", "", "zz", "6G", "99999999999999999999", "first"];
+    let words = ["insert", "replay", "load", "poke", "room", "create", "get", "krange", "sum", "rebuild", "61", "6", "-", "", "zz", "6G", "99999999999999999999", "first"];
     match r.below(8) {
         0 => {
             let n = r.below(40);
@@ -221,7 +222,7 @@ fn broken(r: &mut Random) -> Vec<u8> {
 /// A call on whatever the store is.
 fn call(r: &mut Random, store: &Store) -> String {
     let k = hex(&key(r, store));
-    match r.below(13) {
+    match r.below(14) {
         0 | 1 | 2 => format!("insert {k} {}", hex(&any_bytes(r))),
         3 => format!("modify {k} {}", hex(&any_bytes(r))),
         4 | 5 => format!("delete {k}"),
@@ -231,6 +232,10 @@ fn call(r: &mut Random, store: &Store) -> String {
         9 => "count".into(),
         10 => "empty".into(),
         11 => "root".into(),
+        12 => {
+            let bytes = if r.chance(6) { any_bytes(r) } else { log(r, 12, |r| key(r, store)) };
+            format!("replay {}", hex(&bytes))
+        }
         _ => {
             let capacities = [0, 1, 2, store.capacity, store.capacity, 1024, 1025, 2047, usize::MAX, r.below(1 << 30)];
             format!("create {}", capacities[r.below(capacities.len())])

@@ -11,6 +11,7 @@ fn numbers(call: &str) -> &'static [usize] {
         "modify" => &[0, 1, 2, 3, 7],
         "delete" | "get" | "next" => &[0, 1, 2, 7],
         "first" => &[0, 1, 7],
+        "replay" => &[0, 1, 13],
         "count" | "empty" | "root" => &[0, 1],
         "full" | "keys" => &[0, 1, 6],
         "witness" | "prefix" => &[0, 1, 2, 6],
@@ -23,9 +24,9 @@ fn numbers(call: &str) -> &'static [usize] {
     }
 }
 
-const CALLS: [&str; 22] = [
+const CALLS: [&str; 23] = [
     "create", "insert", "modify", "delete", "get", "first", "next", "count", "empty", "root", "full", "keys", "witness", "krange", "vrange",
-    "prefix", "rebuild", "hash", "ask", "merge", "part", "end",
+    "prefix", "rebuild", "hash", "ask", "merge", "part", "end", "replay",
 ];
 
 /// What stands after the number of a refused call.
@@ -33,6 +34,7 @@ fn refused(call: &str) -> String {
     match call {
         "get" | "first" | "next" => " 0 0 0 0".into(),
         "count" => " 0".into(),
+        "replay" => " 0 0".into(),
         "empty" => " no".into(),
         "ask" => " refused 0 0".into(),
         "root" | "rebuild" | "hash" | "end" => format!(" {}", "00".repeat(32)),

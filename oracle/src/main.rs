@@ -14,6 +14,7 @@ mod fuzz;
 mod fuzzed;
 mod hash_tree;
 mod lies;
+mod logs;
 mod nested;
 #[allow(dead_code)]
 #[path = "rust_map.rs"]

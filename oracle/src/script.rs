@@ -1,7 +1,8 @@
 //! Random scripts for `calls`: histories on stores of many capacities, with keys that share fronts, lie side by side or are
-//! extreme, refused calls among them, every witness call at present, absent and extreme bounds, and damaged stores; and the witnesses
+//! extreme, refused calls and build logs among them, every witness call at present, absent and extreme bounds, and damaged stores; and the witnesses
 //! that come out asked, merged and rebuilt in parts, as they are and damaged.
 use crate::calls::{hex, unhex, Calls};
+use crate::logs::log;
 
 pub struct Random(u64);
 
@@ -94,6 +95,14 @@ fn query(r: &mut Random, keys: &mut Keys) -> String {
         12 => format!("prefix {}", hex(&a[..r.below(a.len() + 1)])),
         _ => format!("get {}", hex(&a)),
     }
+}
+
+/// A build log, lawful or not; or one that is cut at every byte, the whole of it last. After each the store's sum.
+fn replays(r: &mut Random, keys: &mut Keys, capacity: usize) -> Vec<String> {
+    let most = [0, 1, 3, 3, 10, 40, 300][r.below(if capacity > 200 { 7 } else { 6 })];
+    let bytes = log(r, most, |r| keys.any(r));
+    let from = if bytes.len() <= 40 && r.chance(4) { 0 } else { bytes.len() };
+    (from..=bytes.len()).flat_map(|n| [format!("replay {}", hex(&bytes[..n])), "sum".into()]).collect()
 }
 
 /// Lines about witnesses that were made before: each asked for a key, merged with another, cut into parts; some of them damaged.
@@ -193,6 +202,9 @@ pub fn script(seed: u64, lines: usize) -> Vec<String> {
             if capacity <= 40 || r.chance(20) {
                 out.push("sum".into());
             }
+            if r.chance(15) {
+                out.extend(replays(&mut r, &mut keys, capacity));
+            }
             if r.chance(3) {
                 let q = query(&mut r, &mut keys);
                 if capacity <= 200 || !(q == "keys" || q == "full") || r.chance(20) {
@@ -221,6 +233,7 @@ pub fn script(seed: u64, lines: usize) -> Vec<String> {
                 out.push(query(&mut r, &mut keys));
             }
             out.push("insert 61 62".into());
+            out.push(["replay 0102610b", "replay 0103610b"][r.below(2)].into());
             out.push("sum".into());
         }
     }

@@ -10,6 +10,7 @@ use Rattle.lookup.specs.declared.Looked.{Looked}
 use Rattle.lookup.specs.declared.Looked.the-variants as looked
 use Rattle.lookup.specs.declared.LookedUp.{LookedUp}
 use Rattle.store.specs.Answers as answers
+use Rattle.store.specs.Replay.{Replayed}
 use Rattle.c_boundary.specs.declared.Seen.{Seen}
 
 -- a lent thing at the end of a call
@@ -33,6 +34,9 @@ foundIs n k i v j = record { number = n; «key_at» = k; «key_length» = i; «v
 abbrev pub writtenIs : (number size : ℕ) → List ℕ → answers.Written
 writtenIs n size output = record { number = n; size = size; output = output }
 
+abbrev pub replayedIs : (number full absent : ℕ) → List ℕ → Replayed
+replayedIs n full absent store = record { number = n; full = full; absent = absent; store = store }
+
 -- ---- what it must leave: the call on paper, and the values found
 
 unfoldable pub toldTo : Bool → answers.Told → answers.Told
@@ -52,6 +56,10 @@ foundTo k i v j a =
 -- the output's bytes stay by the call itself
 unfoldable pub writtenTo : ℕ → answers.Written → answers.Written
 writtenTo size a = writtenIs (a .number) (lent (a .number) (a .size) size) (a .output)
+
+-- the store's bytes stay by the call itself
+unfoldable pub replayedTo : (full absent : ℕ) → Replayed → Replayed
+replayedTo full absent a = replayedIs (a .number) (lent (a .number) (a .full) full) (lent (a .number) (a .absent) absent) (a .store)
 
 -- ---- what a witness says of a key: 1 found, 2 absent, 3 not to be told; where the child lies, 0 and 0 unless found
 

@@ -7,18 +7,21 @@ use answers::Told;
 use lookup::Looked;
 use lookup::LookedUp;
 use parts::STATE;
+use replay::Replayed;
 ghost use mathlib.Core.Path.{_≡_};
 ghost use mathlib.Core.List.{List};
 ghost use Prim.Native.Nat.{ℕ};
 ghost use Rattle.sha256.specs.Hashed.{hashed};
 ghost use Rattle.hash_tree.specs.Whole.{rebuilt};
 ghost use Rattle.store.specs.Calls.{createAnswer, isEmptyAnswer, countAnswer, rootHashAnswer, getAnswer, firstEntryAnswer, nextEntryAnswer, insertAnswer, modifyAnswer, deleteAnswer, asHashTreeAnswer, keysAnswer, witnessAnswer, keyRangeAnswer, valueRangeAnswer, keysWithPrefixAnswer};
+ghost use Rattle.store.specs.Replay.{replayAnswer};
+ghost use Rattle.replay.specs.Runs.{ranTo};
 ghost use Rattle.answers.specs.Answers.{answered, changedOf};
 ghost use Rattle.lookup.specs.Answer.{lookupAnswer};
 ghost use Rattle.merge.specs.Answer.{mergeAnswer};
 ghost use Rattle.parts.specs.Machine.{ended, partNumber};
 ghost use Rattle.parts.specs.Layout.{begun, run, partsOf};
-ghost use Rattle.c_boundary.specs.Lent.{toldIs, toldTo, countedIs, countedTo, digestedIs, digestedTo, foundIs, foundTo, writtenIs, writtenTo, seenOf, askedIs, askedTo, rebuiltOf, hashedOf};
+ghost use Rattle.c_boundary.specs.Lent.{toldIs, toldTo, countedIs, countedTo, digestedIs, digestedTo, foundIs, foundTo, writtenIs, writtenTo, replayedIs, replayedTo, seenOf, askedIs, askedTo, rebuiltOf, hashedOf};
 
 // ---- what is lent for an answer: filled if the number is 0
 
@@ -75,6 +78,16 @@ fn put_length(saved: Saved, length: &mut usize) -> usize
         *length = saved.size;
     }
     saved.number
+}
+
+fn put_counts(replayed: Replayed, full: &mut usize, absent: &mut usize) -> usize
+    ensures { λ r. ⌜ ((s : List ℕ) → replayedIs r (now (full .exit)) (now (absent .exit)) s ≡ replayedTo (now (full .entry)) (now (absent .entry)) (ranTo replayed s)) ⌝ }
+{
+    if replayed.number == 0 {
+        *full = replayed.full;
+        *absent = replayed.absent;
+    }
+    replayed.number
 }
 
 const FOUND: usize = 1;
@@ -232,6 +245,19 @@ pub extern "C" fn dampcandle_delete(store: &mut [u8], key: &[u8]) -> usize
     ensures { λ r. ⌜ changedOf r (now (store .exit)) ≡ deleteAnswer (now (key .entry)) (now (store .entry)) ⌝ }
 {
     register_map::delete(store, key)
+}
+
+// Runs a build log.
+#[no_mangle]
+pub extern "C" fn dampcandle_replay(
+    store: &mut [u8],
+    log: &[u8],
+    full: &mut usize,
+    absent: &mut usize,
+) -> usize
+    ensures { λ r. ⌜ replayedIs r (now (full .exit)) (now (absent .exit)) (now (store .exit)) ≡ replayedTo (now (full .entry)) (now (absent .entry)) (replayAnswer (now (log .entry)) (now (store .entry))) ⌝ }
+{
+    put_counts(register_map::replay(store, log), full, absent)
 }
 
 // ---- witnesses: each fills the front of the output

@@ -16,6 +16,7 @@ use crate::reply::say_found;
 use crate::reply::say_looked;
 use crate::reply::say_number;
 use crate::reply::say_ok;
+use crate::reply::say_replayed;
 use crate::reply::say_unknown;
 use crate::reply::say_whether;
 use crate::reply::say_witness;
@@ -228,6 +229,7 @@ fn perform(call: Call, number: u64, a: &[u8], b: &[u8], store: &mut [u8], output
         Call::Change(which) => say_number(change(which, number, a, b, store)),
         Call::Ask(which) => ask(which, a, b, store),
         Call::Show(which) => show(which, a, b, store, output),
+        Call::Replay => say_replayed(register_map::replay(store, a)),
         Call::Unknown => say_unknown(),
         _ => return,
     }

@@ -56,6 +56,7 @@ pub(crate) enum Call {
     Ask(Ask),
     Show(Show),
     Feed(Feed),
+    Replay,
     Unknown,
 }
 
@@ -83,7 +84,7 @@ fn alone(name: &[u8]) -> Call {
 fn with_one(name: &[u8]) -> Call {
     match place(
         name,
-        b"buffer room load create delete get next rebuild hash witness prefix part",
+        b"buffer room load create delete get next rebuild hash witness prefix part replay",
     ) {
         0 => Call::Setup(Setup::Buffer),
         1 => Call::Setup(Setup::Room),
@@ -97,6 +98,7 @@ fn with_one(name: &[u8]) -> Call {
         9 => Call::Show(Show::Witness),
         10 => Call::Show(Show::Prefix),
         11 => Call::Feed(Feed::Part),
+        12 => Call::Replay,
         _ => Call::Unknown,
     }
 }

@@ -4,6 +4,7 @@ use answers::Saved;
 use libc::STDOUT_FILENO;
 use lookup::Looked;
 use lookup::LookedUp;
+use replay::Replayed;
 use text::print::say;
 use text::print::say_hex;
 use text::words::within;
@@ -51,6 +52,14 @@ pub(crate) fn say_number(n: usize) {
 pub(crate) fn say_count(n: usize, count: usize) {
     number(n);
     next(count);
+    end();
+}
+
+// How many records found no room, and how many no entry of their key.
+pub(crate) fn say_replayed(r: Replayed) {
+    number(r.number);
+    next(r.full);
+    next(r.absent);
     end();
 }
 

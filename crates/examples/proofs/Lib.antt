@@ -1,2 +1,3 @@
--- The starred examples of document 01 hold.
+-- The starred examples of document 01 hold, and the examples of replay.
 pub mod Table
+pub mod Logs

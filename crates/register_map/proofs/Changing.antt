@@ -14,6 +14,7 @@ use Rattle.store.specs.Decide.{onSound}
 use Rattle.store.specs.Answers.{changed}
 use Rattle.store.specs.Calls.{insertIn, modifyIn, deleteIn, insertAnswer, modifyAnswer, deleteAnswer}
 use Rattle.store.proofs.Decoding.{on-sound}
+use Rattle.store.proofs.Calling.{insert-outcome, modify-outcome, delete-outcome}
 use Rattle.store.proofs.Encoding.{encoded}
 use Rattle.rb_tree.specs.declared.Inserted.{Inserted}
 use Rattle.rb_tree.specs.declared.Inserted.the-variants as insert
@@ -77,18 +78,16 @@ module _ {s : List ℕ} (a : Sound s) (k : Key) where
 
     module _ (q : length v ≤ 64) (b : Bytes s) {s′ : List ℕ} where
       pub insert-after : (r : Inserted) → AfterInsert k v s s′ (a .0) r → changedOf (insertedNumber r) s′ ≡ insertAnswer k v s
-      unfolding insertAnswer insertIn
-      insert-after insert.Full w = stays (a .1) (insertIn k v) Full (rw (le-ltb 48 (length k) p, le-ltb 64 (length v) q, w .0)) (w .1)
-      insert-after insert.Done w =
-          becomes (a .1) (insertIn k v) (inserted k v (a .0)) (rw (le-ltb 48 (length k) p, le-ltb 64 (length v) q, w .0)) (w .1 .bytes b) (w .1 .holds)
+      unfolding insertAnswer
+      insert-after insert.Full w = stays (a .1) (insertIn k v) Full (insert-outcome k v (a .0) p q ∙ rw (w .0)) (w .1)
+      insert-after insert.Done w = becomes (a .1) (insertIn k v) (inserted k v (a .0)) (insert-outcome k v (a .0) p q ∙ rw (w .0)) (w .1 .bytes b) (w .1 .holds)
 
       pub modify-after : (r : Changed) → AfterChange k s s′ (a .0) (modified k v (a .0)) r → changedOf (changedNumber r) s′ ≡ modifyAnswer k v s
-      unfolding modifyAnswer modifyIn
-      modify-after change.Absent w = stays (a .1) (modifyIn k v) Absent (rw (le-ltb 48 (length k) p, le-ltb 64 (length v) q, w .0)) (w .1)
-      modify-after change.Done w =
-          becomes (a .1) (modifyIn k v) (modified k v (a .0)) (rw (le-ltb 48 (length k) p, le-ltb 64 (length v) q, w .0)) (w .1 .bytes b) (w .1 .holds)
+      unfolding modifyAnswer
+      modify-after change.Absent w = stays (a .1) (modifyIn k v) Absent (modify-outcome k v (a .0) p q ∙ rw (w .0)) (w .1)
+      modify-after change.Done w = becomes (a .1) (modifyIn k v) (modified k v (a .0)) (modify-outcome k v (a .0) p q ∙ rw (w .0)) (w .1 .bytes b) (w .1 .holds)
 
   pub delete-after : length k ≤ 48 → Bytes s → {s′ : List ℕ} (r : Changed) → AfterChange k s s′ (a .0) (deleted k (a .0)) r → changedOf (changedNumber r) s′ ≡ deleteAnswer k s
-  unfolding deleteAnswer deleteIn
-  delete-after p b change.Absent w = stays (a .1) (deleteIn k) Absent (rw (le-ltb 48 (length k) p, w .0)) (w .1)
-  delete-after p b change.Done w = becomes (a .1) (deleteIn k) (deleted k (a .0)) (rw (le-ltb 48 (length k) p, w .0)) (w .1 .bytes b) (w .1 .holds)
+  unfolding deleteAnswer
+  delete-after p b change.Absent w = stays (a .1) (deleteIn k) Absent (delete-outcome k (a .0) p ∙ rw (w .0)) (w .1)
+  delete-after p b change.Done w = becomes (a .1) (deleteIn k) (deleted k (a .0)) (delete-outcome k (a .0) p ∙ rw (w .0)) (w .1 .bytes b) (w .1 .holds)

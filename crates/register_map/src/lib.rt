@@ -18,18 +18,21 @@ use lookup::LookedUp;
 use parts::STATE;
 use rb_tree::Changed;
 use rb_tree::Inserted;
+use replay::Replayed;
 use search::Place;
 use sha256::Hashed;
 ghost use mathlib.Core.Path.{_≡_};
 ghost use Rattle.sha256.specs.Hashed.{hashed};
 ghost use Rattle.hash_tree.specs.Whole.{rebuilt};
 ghost use Rattle.store.specs.Calls.{createAnswer, isEmptyAnswer, countAnswer, rootHashAnswer, getAnswer, firstEntryAnswer, nextEntryAnswer, insertAnswer, modifyAnswer, deleteAnswer, asHashTreeAnswer, keysAnswer, witnessAnswer, keyRangeAnswer, valueRangeAnswer, keysWithPrefixAnswer};
+ghost use Rattle.store.specs.Replay.{replayAnswer};
 ghost use Rattle.answers.specs.Answers.{noEntry, unwritten, answered, changedOf};
 ghost use Rattle.search.specs.Search.{answerOf};
 ghost use Rattle.lookup.specs.Answer.{lookupAnswer};
 ghost use Rattle.merge.specs.Answer.{mergeAnswer};
 ghost use Rattle.parts.specs.Machine.{ended, partNumber};
 ghost use Rattle.parts.specs.Layout.{begun, run, partsOf};
+ghost use Rattle.replay.specs.Runs.{ranTo};
 ghost use Rattle.register_map.specs.Answers.{insertedNumber, changedNumber};
 
 // ---- a store as a whole
@@ -210,6 +213,20 @@ pub fn delete(store: &mut [u8], key: &[u8]) -> usize
         return LONG_KEY;
     }
     changed_number(rb_tree::delete(store, key))
+}
+
+// Runs a build log: one call for each of its records, in order. A malformed log changes nothing.
+pub fn replay(store: &mut [u8], log: &[u8]) -> Replayed
+    ensures { λ r. ⌜ ranTo r (now (store .exit)) ≡ replayAnswer (now (log .entry)) (now (store .entry)) ⌝ }
+{
+    if !judge(store) {
+        return Replayed {
+            number: NOT_SOUND,
+            full: 0,
+            absent: 0,
+        };
+    }
+    replay::replay(store, log)
 }
 
 // ---- witnesses: each fills the front of the output

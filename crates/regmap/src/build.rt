@@ -20,7 +20,7 @@ use regmap_words::says::REFUSED;
 use regmap_words::says::TROUBLE;
 use regmap_words::says::refuse;
 use regmap_words::says::say_registers;
-use search::Place;
+use search::Found;
 use text::hex;
 use text::hex::Few;
 use text::hex::Number;
@@ -32,48 +32,41 @@ use text::words::find;
 use text::words::has;
 use text::words::is;
 use text::words::part;
-use text::words::piece;
 use text::words::within;
 use text::words::word;
-ghost use Rattle.store.specs.Sound.{Sound};
-ghost use Rattle.rb_tree.specs.Stores.{Asked};
+ghost use Rattle.search.specs.Search.{EntryAt};
+ghost use Rattle.rb_tree.specs.Stores.{AskedStale, HasStale};
 
-// ---- the store
+// ---- the store: one batch of inserts, and one refresh at the end
 
-// A new register; one that is there already must have this value.
-fn put(store: &mut [u8], key: &[u8], value: &[u8]) -> Fault
-    requires { ⌜ Asked (now key) (now value) (now store) ⌝ }
-    ensures { λ _. ⌜ Sound (now (store .exit)) ⌝ }
+// Whether a register that is there already has this value.
+fn again(store: &[u8], slot: usize, value: &[u8]) -> Fault
+    requires { ⌜ EntryAt (now store) slot ⌝ }
 {
-    let place = search::get_place(store, key);
-    let Place::Nothing = place else {
-        return again(store, place, value);
-    };
-    let Inserted::Done = rb_tree::insert(store, key, value) else {
-        return Fault::Full;
-    };
-    Fault::Taken
-}
-
-fn again(store: &[u8], place: Place, value: &[u8]) -> Fault {
-    let Place::At {
-        key_at: _,
-        key_length: _,
-        value_at,
-        value_length,
-    } = place
-    else {
-        return Fault::Twice;
-    };
-    if is(piece(store, value_at, value_length), value) {
+    if is(slots::value(store, slot), value) {
         return Fault::Taken;
     }
     Fault::Twice
 }
 
+// A new register; one that is there already must have this value.
+fn put(store: &mut [u8], key: &[u8], value: &[u8]) -> Fault
+    requires { ⌜ AskedStale (now key) (now value) (now store) ⌝ }
+    ensures { λ _. ⌜ HasStale (now (store .exit)) ⌝ }
+{
+    let root = slots::header_of(store).root;
+    if let Found::At(slot) = search::get(store, root, key) {
+        return again(store, slot, value);
+    }
+    let Inserted::Done = rb_tree::insert_stale(store, key, value) else {
+        return Fault::Full;
+    };
+    Fault::Taken
+}
+
 fn put_register(store: &mut [u8], name: Few, value: Few) -> Fault
-    requires { ⌜ Sound (now store) ⌝ }
-    ensures { λ _. ⌜ Sound (now (store .exit)) ⌝ }
+    requires { ⌜ HasStale (now store) ⌝ }
+    ensures { λ _. ⌜ HasStale (now (store .exit)) ⌝ }
 {
     let n = name.bytes;
     let v = value.bytes;
@@ -89,8 +82,8 @@ fn put_register(store: &mut [u8], name: Few, value: Few) -> Fault
 }
 
 fn take(line: &[u8], store: &mut [u8]) -> Fault
-    requires { ⌜ Sound (now store) ⌝ }
-    ensures { λ _. ⌜ Sound (now (store .exit)) ⌝ }
+    requires { ⌜ HasStale (now store) ⌝ }
+    ensures { λ _. ⌜ HasStale (now (store .exit)) ⌝ }
 {
     let r = register_of(line);
     let fault = r.fault;
@@ -108,9 +101,9 @@ struct Stop {
     line: usize,
 }
 
-// Every line of the map into a sound store.
+// Every line of the map into a sound store, whose digests are worked out once all are in.
 fn put_lines(text: &[u8], store: &mut [u8]) -> Stop
-    requires { ⌜ Sound (now store) ⌝ }
+    requires { ⌜ HasStale (now store) ⌝ }
 {
     let mut at = 0;
     let mut line = 1;
@@ -123,6 +116,7 @@ fn put_lines(text: &[u8], store: &mut [u8]) -> Stop
         at = end + 1;
         line += 1;
     }
+    rb_tree::settle(store);
     let fault = Fault::Taken;
     Stop { fault, line }
 }

@@ -1,9 +1,11 @@
 // One command: its words are looked at, then its work is done.
 use crate::build::build;
+use crate::replays::replay;
 use crate::stores;
 use crate::witnesses;
 use regmap_check::inspect;
 use regmap_check::merge_files;
+use regmap_log::show;
 use regmap_words::kinds;
 use regmap_words::kinds::kind_of;
 use regmap_words::says::DONE;
@@ -27,6 +29,8 @@ pub(crate) fn command(line: &[u8], err: i32) -> usize {
         6..=9 => witnesses::cut(kind, line, err),
         kinds::MERGE => merge_files(line, err),
         kinds::BUILD => build(line, err),
+        kinds::REPLAY => replay(line, err),
+        kinds::LOG => show(line, err),
         kinds::RUN => no_run(err),
         kinds::NONE => TROUBLE,
         kinds::SAID => DONE,

@@ -2,6 +2,7 @@
 // Every answer comes from the proved calls; here are words, files and text. docs/REGMAP.md lists the commands.
 mod build;
 mod commands;
+mod replays;
 mod script;
 mod stores;
 mod witnesses;

@@ -21,7 +21,7 @@ pub fn version() {
     say(OUT, &VERSION);
 }
 
-const USAGE: [u8; 1865] =
+const USAGE: [u8; 2014] =
     *b"regmap: a map of registers as a store with a root digest, and witnesses of it
 
                regmap ..                       for example, regmap ..
@@ -32,6 +32,7 @@ const USAGE: [u8; 1865] =
   a change     set STORE NAME HEX              set u.store 008.CTRL 0008
                add STORE NAME HEX              add u.store 010.NEW 0010
                unset STORE NAME                unset u.store 008.CTRL
+               replay STORE LOG                replay u.store examples/uart.log
   a witness    witness STORE OUT NAME          witness u.store w 008.CTRL
                range STORE OUT FIRST LAST      range u.store w 004.STATUS 00c.BAUD
                  [--values]                    range u.store w 008 010 --values
@@ -44,6 +45,7 @@ const USAGE: [u8; 1865] =
   shown        read WITNESS [DIGEST] [--json]  read w
                dot WITNESS [DIGEST]            dot w | dot -Tsvg >w.svg
                html WITNESS [DIGEST]           html w >w.html
+               log LOG                         log examples/uart.log
   from a file  run FILE                        run examples/tour.run
   about it     --help, --version
 

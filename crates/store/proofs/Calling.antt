@@ -6,13 +6,13 @@ use Prim.Native.Nat.{ℕ, _≤_}
 use native.Mathlib.Omega.{arith}
 use lib.Dec.{eqb}
 use lib.ListN.{length}
-use borrow.Author.Tests.{ltb-false, eqb-false}
+use borrow.Author.Tests.{ltb-false, eqb-false, le-ltb}
 use Rattle.key_order.specs.Order.{Key}
 use Rattle.llrb.specs.Tree.{Value, Entry, get}
 use Rattle.store.specs.Numbers.{Refusal, NotSound, LongKey, LongValue, Reversed, Full, NoRoom, Absent, BadCapacity, Malformed, LongMessage, IllFormed, NotCbor, BadLog, BadPath, Unlike, numberOf, Outcome, refused, done}
 use Rattle.store.specs.Model.{Model, inserted, modified, deleted}
 use Rattle.store.specs.Sound.{Lawful}
-use Rattle.store.specs.Calls.{refuse, longKey, longValue, isNone, noFreeSlot, insertIn, modifyIn, deleteIn}
+use Rattle.store.specs.Calls.{refuse, longKey, longValue, isNone, absent as isAbsent, noFreeSlot, insertIn, modifyIn, deleteIn}
 use Rattle.store.specs.History.{Edit, Insert, Modify, Delete, editIn, after}
 use Rattle.store.proofs.Operating.{present, absent, inserted-lawful, modified-lawful, deleted-lawful}
 
@@ -87,6 +87,20 @@ pub verdict : (d : Edit) (m : Model) → Verdict d m (editIn d m)
 verdict (Insert k v) m = insert-verdict k v m
 verdict (Modify k v) m = modify-verdict k v m
 verdict (Delete k) m = delete-verdict k m
+
+-- ---- a key and a value that are not too long
+
+pub insert-outcome : (k : Key) (v : Value) (m : Model) → length k ≤ 48 → length v ≤ 64 → insertIn k v m ≡ refuse (isAbsent k m && noFreeSlot m) Full (done (inserted k v m))
+unfolding insertIn
+insert-outcome k v m p q = rw (le-ltb 48 (length k) p, le-ltb 64 (length v) q)
+
+pub modify-outcome : (k : Key) (v : Value) (m : Model) → length k ≤ 48 → length v ≤ 64 → modifyIn k v m ≡ refuse (isAbsent k m) Absent (done (modified k v m))
+unfolding modifyIn
+modify-outcome k v m p q = rw (le-ltb 48 (length k) p, le-ltb 64 (length v) q)
+
+pub delete-outcome : (k : Key) (m : Model) → length k ≤ 48 → deleteIn k m ≡ refuse (isAbsent k m) Absent (done (deleted k m))
+unfolding deleteIn
+delete-outcome k m p = rw (le-ltb 48 (length k) p)
 
 -- ---- an edit keeps a model lawful
 

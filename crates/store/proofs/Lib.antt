@@ -15,3 +15,5 @@ pub mod Table
 pub mod Refusing
 pub mod Viewing
 pub mod Longest
+pub mod Logs
+pub mod Replaying

@@ -23,7 +23,10 @@ use Rattle.store.specs.Model.{Model, fresh}
 use Rattle.store.specs.Decide.{onSound}
 use Rattle.store.specs.Answers.{told, counted, digested, found, changed, written, fitting}
 use Rattle.store.specs.Calls.{refuse, getIn, firstIn, nextIn, insertIn, modifyIn, deleteIn, ofKey, ofRange, witnessed, createAnswer, isEmptyAnswer, countAnswer, rootHashAnswer, getAnswer, firstEntryAnswer, nextEntryAnswer, insertAnswer, modifyAnswer, deleteAnswer, asHashTreeAnswer, keysAnswer, witnessAnswer, keysWithPrefixAnswer, keyRangeAnswer, valueRangeAnswer}
-use Rattle.store.specs.Demand.{Kept, Unwritten, Nothing, Demand1}
+use Rattle.store.specs.History.{Edit}
+use Rattle.store.specs.Log.{readLog}
+use Rattle.store.specs.Replay.{replayed, orBadLog, replayAnswer}
+use Rattle.store.specs.Demand.{Kept, Unwritten, Unreplayed, Nothing, Demand1}
 
 told-no : (o : Outcome Bool) → told o .number ≢ 0 → told o .yes ≡ false
 told-no (refused r) n = refl
@@ -50,6 +53,10 @@ unwritten : (out : List ℕ) (o : Outcome (List ℕ)) → Unwritten out (written
 unwritten out (refused r) n = refl
 unwritten out (done w) n = absurd (n refl)
 
+unreplayed : (s : List ℕ) (o : Outcome (List Edit)) → Unreplayed s (replayed s o)
+unreplayed s (refused r) n = refl
+unreplayed s (done es) n = absurd (n refl)
+
 witnessed-kept : (make : Model → Outcome HashTree) (s out : List ℕ) → Unwritten out (witnessed make s out)
 unfolding witnessed
 witnessed-kept make s out = unwritten out (fitting out (onSound s make (refused NotSound)))
@@ -73,7 +80,7 @@ hashed-none message = at (leb (length message) maxMessage)
     at false n = refl
 
 pub demand-1 : (s : List ℕ) → Demand1 s
-unfolding createAnswer isEmptyAnswer countAnswer rootHashAnswer getAnswer firstEntryAnswer nextEntryAnswer insertAnswer modifyAnswer deleteAnswer asHashTreeAnswer keysAnswer witnessAnswer keysWithPrefixAnswer keyRangeAnswer valueRangeAnswer rebuilt
+unfolding createAnswer isEmptyAnswer countAnswer rootHashAnswer getAnswer firstEntryAnswer nextEntryAnswer insertAnswer modifyAnswer deleteAnswer asHashTreeAnswer keysAnswer witnessAnswer keysWithPrefixAnswer keyRangeAnswer valueRangeAnswer replayAnswer rebuilt
 demand-1 s =
     record {
       create = λ capacity. kept s (refuse (eqb capacity 0 || (ltb 1024 capacity || not (eqb (length s) (storeLength capacity)))) BadCapacity (done (fresh capacity)));
@@ -92,6 +99,7 @@ demand-1 s =
       keysWithPrefix = λ prefix out. witnessed-kept (ofKey keysWithPrefix prefix) s out;
       keyRange = λ first last out. witnessed-kept (ofRange keyRange first last) s out;
       valueRange = λ first last out. witnessed-kept (ofRange valueRange first last) s out;
+      replay = λ log. unreplayed s (onSound s (λ m. orBadLog (readLog log)) (refused NotSound));
       rebuild = λ w. rebuilt-none (parse maxDepth w);
       hash = hashed-none;
     }

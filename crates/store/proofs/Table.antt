@@ -17,13 +17,16 @@ use Rattle.llrb.specs.Tree.{Entry, entries, size, get}
 use Rattle.llrb.specs.Digests.{rootHash}
 use Rattle.llrb.specs.Iterate.{headOf, firstAbove}
 use Rattle.witness_trees.specs.Witness.{asHashTree, keys, keyRange, valueRange, keysWithPrefix, witness}
-use Rattle.store.specs.Numbers.{NotSound, LongKey, LongValue, Reversed, Full, NoRoom, Absent, BadCapacity, Malformed, LongMessage, numberOf, Outcome, refused, done}
+use Rattle.store.specs.Numbers.{NotSound, LongKey, LongValue, Reversed, Full, NoRoom, Absent, BadCapacity, Malformed, LongMessage, BadLog, numberOf, Outcome, refused, done}
 use Rattle.store.specs.Model.{Model, fresh, inserted, modified, deleted}
 use Rattle.store.specs.Sound.{Represents}
 use Rattle.store.specs.Decode.{decode}
 use Rattle.store.specs.Decide.{represents?, onSound}
 use Rattle.store.specs.Answers.{told, counted, digested, found, changed, written, fitting}
 use Rattle.store.specs.Calls.{refuse, longKey, longValue, crossedRange, isNone, absent, noFreeSlot, entryOr, getIn, firstIn as firstEntryIn, nextIn, insertIn, modifyIn, deleteIn, ofKey, ofRange, witnessed, createAnswer, isEmptyAnswer, countAnswer, rootHashAnswer, getAnswer, firstEntryAnswer, nextEntryAnswer, insertAnswer, modifyAnswer, deleteAnswer, asHashTreeAnswer, keysAnswer, witnessAnswer, keysWithPrefixAnswer, keyRangeAnswer, valueRangeAnswer}
+use Rattle.store.specs.History.{Edit}
+use Rattle.store.specs.Log.{readLog}
+use Rattle.store.specs.Replay.{replayed, orBadLog, replayAnswer}
 use Rattle.store.specs.Table.{Row, when, applies, firstIn, notSound, shorter, malformed, Table}
 use Rattle.store.proofs.Refusing.{hashedIf}
 use Rattle.store.proofs.Decoding.{on-sound, on-unsound, sound-decodes}
@@ -91,6 +94,10 @@ range-number out true b t = refl
 range-number out false true t = refl
 range-number out false false t = room-number out t
 
+replay-number : (s : List ℕ) (o : Option (List Edit)) → replayed s (orBadLog o) .number ≡ firstIn (when BadLog (isNone o) ∷ [])
+replay-number s none = refl
+replay-number s (some es) = refl
+
 create-number : (s : List ℕ) (b : Bool) (n : Model) → changed s (refuse b BadCapacity (done n)) .number ≡ cond b (numberOf BadCapacity) 0
 create-number s true n = refl
 create-number s false n = refl
@@ -111,7 +118,7 @@ hash-number message = at (leb (length message) maxMessage)
 -- ---- the table
 
 pub table : (s : List ℕ) → Table s
-unfolding isEmptyAnswer countAnswer rootHashAnswer getAnswer firstEntryAnswer nextEntryAnswer insertAnswer modifyAnswer deleteAnswer asHashTreeAnswer keysAnswer witnessAnswer keysWithPrefixAnswer keyRangeAnswer valueRangeAnswer createAnswer witnessed fitting getIn firstEntryIn nextIn insertIn modifyIn deleteIn ofKey ofRange rebuilt
+unfolding isEmptyAnswer countAnswer rootHashAnswer getAnswer firstEntryAnswer nextEntryAnswer insertAnswer modifyAnswer deleteAnswer asHashTreeAnswer keysAnswer witnessAnswer keysWithPrefixAnswer keyRangeAnswer valueRangeAnswer replayAnswer createAnswer witnessed fitting getIn firstEntryIn nextIn insertIn modifyIn deleteIn ofKey ofRange rebuilt
 table s =
     let m = decode s in
     record {
@@ -153,6 +160,8 @@ table s =
           by-soundness s (ofRange valueRange first last) (numberIn out)
           (when LongKey (longKey first || longKey last) ∷ when Reversed (crossedRange first last (m .tree)) ∷ shorter out (valueRange first last (m .tree)) ∷ []) refl refl
           (range-number out (longKey first || longKey last) (crossedRange first last (m .tree)) (valueRange first last (m .tree)));
+      replay = λ log.
+          by-soundness s (λ m. orBadLog (readLog log)) (λ o. replayed s o .number) (when BadLog (isNone (readLog log)) ∷ []) refl refl (replay-number s (readLog log));
       create = λ capacity.
           create-number s (eqb capacity 0 || (ltb 1024 capacity || not (eqb (length s) (storeLength capacity)))) (fresh capacity);
       rebuild = λ w. rebuild-number (parse maxDepth w);

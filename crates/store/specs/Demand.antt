@@ -25,6 +25,7 @@ use Rattle.store.specs.Sound.{Digests, Sound}
 use Rattle.store.specs.Decode.{decode}
 use Rattle.store.specs.Answers.{Found, Changed, Written}
 use Rattle.store.specs.Calls.{isNone, createAnswer, isEmptyAnswer, countAnswer, rootHashAnswer, getAnswer, firstEntryAnswer, nextEntryAnswer, insertAnswer, modifyAnswer, deleteAnswer, asHashTreeAnswer, keysAnswer, witnessAnswer, keysWithPrefixAnswer, keyRangeAnswer, valueRangeAnswer}
+use Rattle.store.specs.Replay.{Replayed, replayAnswer}
 use Rattle.store.specs.History.{Edit, accepted, lastValue, mapAfter, firstPair, pairAbove, modelFrom, newKeys, deletes}
 
 -- ---- demand 1: any number but 0 leaves all lent bytes as found; other numbers are 0, a yes or no is no, digests are 32 zero bytes
@@ -34,6 +35,9 @@ Kept s c = c .number ≢ 0 → c .store ≡ s
 
 abbrev pub Unwritten : List ℕ → Written → Type 0
 Unwritten out w = w .number ≢ 0 → w ≡ record { number = w .number; size = 0; output = out }
+
+abbrev pub Unreplayed : List ℕ → Replayed → Type 0
+Unreplayed s r = r .number ≢ 0 → r ≡ record { number = r .number; full = 0; absent = 0; store = s }
 
 abbrev pub Nothing : Found → Type 0
 Nothing f = f .number ≢ 0 → f ≡ record { number = f .number; «key_at» = 0; «key_length» = 0; «value_at» = 0; «value_length» = 0 }
@@ -55,6 +59,7 @@ pub record Demand1 (s : List ℕ) : Type 0 where
   pub keysWithPrefix : (prefix : Key) (out : List ℕ) → Unwritten out (keysWithPrefixAnswer prefix s out)
   pub keyRange : (first last : Key) (out : List ℕ) → Unwritten out (keyRangeAnswer first last s out)
   pub valueRange : (first last : Key) (out : List ℕ) → Unwritten out (valueRangeAnswer first last s out)
+  pub replay : (log : List ℕ) → Unreplayed s (replayAnswer log s)
   pub rebuild : (w : List ℕ) → whole.rebuilt w .number ≢ 0 → whole.rebuilt w .digest ≡ zeros 32
   pub hash : (message : List ℕ) → hashed message .number ≢ 0 → hashed message .digest ≡ zeros 32
 

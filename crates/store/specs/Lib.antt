@@ -1,5 +1,6 @@
 -- What a store means, and what each public call answers. Read Calls first: the calls as functions of the bytes; then Sound and Model,
--- which say what a store holds; Table and Demand, which say what is proved of the calls; History, which says what a history is.
+-- which say what a store holds; Table and Demand, which say what is proved of the calls; History, which says what a history is; Log and
+-- Replay, which say what a build log is and what running it answers.
 pub mod Numbers
 pub mod Counts
 pub mod Model
@@ -12,8 +13,10 @@ pub mod Counting
 pub mod Decide
 pub mod Answers
 pub mod Calls
-pub mod Table
 pub mod History
+pub mod Log
+pub mod Replay
+pub mod Table
 pub mod Demand
 pub mod Longest
 pub mod Viewed

@@ -17,10 +17,12 @@ use Rattle.hash_tree.specs.Whole.{rebuilt}
 use Rattle.llrb.specs.Tree.{Value, entries}
 use Rattle.llrb.specs.Iterate.{headOf, firstAbove}
 use Rattle.witness_trees.specs.Witness.{asHashTree, keys, keyRange, valueRange, keysWithPrefix, witness}
-use Rattle.store.specs.Numbers.{Refusal, NotSound, LongKey, LongValue, Reversed, Full, NoRoom, Absent, BadCapacity, Malformed, LongMessage, numberOf}
+use Rattle.store.specs.Numbers.{Refusal, NotSound, LongKey, LongValue, Reversed, Full, NoRoom, Absent, BadCapacity, Malformed, LongMessage, BadLog, numberOf}
 use Rattle.store.specs.Decode.{decode}
 use Rattle.store.specs.Decide.{onSound}
 use Rattle.store.specs.Calls.{longKey, longValue, crossedRange, isNone, absent, noFreeSlot, createAnswer, isEmptyAnswer, countAnswer, rootHashAnswer, getAnswer, firstEntryAnswer, nextEntryAnswer, insertAnswer, modifyAnswer, deleteAnswer, asHashTreeAnswer, keysAnswer, witnessAnswer, keysWithPrefixAnswer, keyRangeAnswer, valueRangeAnswer}
+use Rattle.store.specs.Log.{readLog}
+use Rattle.store.specs.Replay.{replayAnswer}
 
 -- a refusal, and whether what it is given for holds
 pub record Row : Type 0 where
@@ -30,9 +32,9 @@ pub record Row : Type 0 where
 abbrev pub when : Refusal → Bool → Row
 when r b = record { refusal = r; holds = b }
 
--- where several apply: 1, 2, 3, 4, 7, 5, 6
+-- where several apply: 1, 2, 3, 4, 7, 5, 6; 13, of document 02, right after 1
 abbrev pub order : List Refusal
-order = NotSound ∷ LongKey ∷ LongValue ∷ Reversed ∷ Absent ∷ Full ∷ NoRoom ∷ []
+order = NotSound ∷ BadLog ∷ LongKey ∷ LongValue ∷ Reversed ∷ Absent ∷ Full ∷ NoRoom ∷ []
 
 abbrev pub applies : Refusal → List Row → Bool
 applies r [] = false
@@ -88,6 +90,7 @@ pub record Table (s : List ℕ) : Type 0 where
   pub valueRange : (first last : Key) (out : List ℕ)
       → valueRangeAnswer first last s out .number
       ≡ firstIn (notSound s ∷ when LongKey (longKey first || longKey last) ∷ when Reversed (crossedRange first last (decode s .tree)) ∷ shorter out (valueRange first last (decode s .tree)) ∷ [])
+  pub replay : (log : List ℕ) → replayAnswer log s .number ≡ firstIn (notSound s ∷ when BadLog (isNone (readLog log)) ∷ [])
   -- create alone answers 8, and nothing else
   pub create : (capacity : ℕ)
       → createAnswer capacity s .number ≡ cond (eqb capacity 0 || (ltb 1024 capacity || not (eqb (length s) (storeLength capacity)))) (numberOf BadCapacity) 0

@@ -1,4 +1,5 @@
 use Rattle.judge.proofs.Deciding.{decides-yes}
+use Rattle.rb_tree.proofs.Settling.{stale-of}
 use borrow.Author.Needs.{needs}
 use Rattle.regmap.proofs.build.filled.Statement.{statement}
 use Rattle.regmap.proofs.build.filled.Tie as tie
@@ -23,7 +24,8 @@ returns-2 c = search needs
 
 put-lines-requires : tie.Need-put-lines-requires
 put-lines-requires c κs =
-    decides-yes (c .before .before .judge .result) (c .before .if2 .left) (c .before .before .judge .ensures)
+    let a = decides-yes (c .before .before .judge .result) (c .before .if2 .left) (c .before .before .judge .ensures) in
+    (a .0, stale-of (a .1))
 
 same-length-3 : tie.Need-same-length-3
 same-length-3 c = search needs

@@ -1,4 +1,4 @@
-use Rattle.store.specs.Sound.{Sound}
+use Rattle.rb_tree.specs.Stores.{HasStale}
 use mathlib.Core.Path.{_≡_}
 use Prim.Native.Nat.{_≤_, _-_, _+_}
 use lib.ListN.{length}
@@ -7,7 +7,7 @@ use Rattle.regmap.proofs.build.put_lines.Statement.{statement}
 use Rattle.regmap.proofs.build.put_lines.Tie as tie
 
 abbrev Inv-loop : tie.InvT-loop
-Inv-loop text store₀ at₀ line₀ store at line = Sound store × (length store ≡ length store₀) × (line ≤ at + 1)
+Inv-loop text store₀ at₀ line₀ store at line = HasStale store × (length store ≡ length store₀) × (line ≤ at + 1)
 
 abbrev μ-loop : tie.MeasureT-loop
 μ-loop text store₀ at₀ line₀ store at line = length text - at
@@ -51,6 +51,9 @@ loop-less c = search needs
 loop-again : tie.Need-loop-again Inv-loop μ-loop
 loop-again c = search needs
 
+settle-requires : tie.Need-settle-requires Inv-loop μ-loop
+settle-requires c κs = search needs
+
 same-length-2 : tie.Need-same-length-2 Inv-loop μ-loop
 same-length-2 c = search needs
 
@@ -76,5 +79,6 @@ put-lines-spec =
     add-line
     loop-less
     loop-again
+    settle-requires
     same-length-2
     returns-2)

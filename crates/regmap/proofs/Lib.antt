@@ -1,0 +1,2 @@
+-- A batch of inserts.
+pub mod Batching
