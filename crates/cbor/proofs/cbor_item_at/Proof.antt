@@ -1,4 +1,4 @@
-use mathlib.Core.Path.{refl, sym, _∙_}
+use mathlib.Core.Path.{refl}
 use native.Mathlib.Omega.{arith}
 use lib.ListN.{getD}
 use Rattle.cbor.proofs.Reading.{too-few, other-kind, other-array, no-string, no-head, low-head, short-head, other-head, no-length, short-length, long-head}
@@ -43,18 +43,18 @@ array-of-requires c κs = search needs
 
 returns-3 : tie.Need-returns-3
 returns-3 c =
-    other-array (c .before .before .before .before .before .before .before .before .before .before .args .s .now) (c .before .before .before .before .before .before .before .before .before .before .args .at) _ _ (omega arith) (c .before .before .wide2 .ensures .0) (c .before .before .before .before .before .wide .ensures .0) (λ e. c .if3 .taken (e ∙ sym (c .before .array-of .ensures .0)))
+    other-array (c .before .before .before .before .before .before .before .before .before .before .args .s .now) (c .before .before .before .before .before .before .before .before .before .before .args .at) _ _ (omega arith) (c .before .before .wide2 .ensures .0) (c .before .before .before .before .before .wide .ensures .0) (λ e. omega arith)
 
 add-start : tie.Need-add-start
 add-start c = search needs
 
 returns-4 : tie.Need-returns-4
 returns-4 c =
-    no-string (c .before .before .before .before .before .before .before .before .before .before .before .args .s .now) (c .before .before .before .before .before .before .before .before .before .before .before .args .at) _ _ (omega arith) (c .before .before .before .wide2 .ensures .0) (c .before .before .before .before .before .before .wide .ensures .0) (c .before .if3 .left ∙ c .before .before .array-of .ensures .0) (c .if4 .taken)
+    no-string (c .before .before .before .before .before .before .before .before .before .before .before .args .s .now) (c .before .before .before .before .before .before .before .before .before .before .before .args .at) _ _ (omega arith) (c .before .before .before .wide2 .ensures .0) (c .before .before .before .before .before .before .wide .ensures .0) (omega arith) (c .if4 .taken)
 
 returns-5 : tie.Need-returns-5
 returns-5 c =
-    no-head (c .before .before .before .before .before .before .before .before .before .before .before .before .args .s .now) (c .before .before .before .before .before .before .before .before .before .before .before .before .args .at) _ _ (omega arith) (c .before .before .before .before .wide2 .ensures .0) (c .before .before .before .before .before .before .before .wide .ensures .0) (c .before .before .if3 .left ∙ c .before .before .before .array-of .ensures .0) (c .before .if4 .left) (omega arith)
+    no-head (c .before .before .before .before .before .before .before .before .before .before .before .before .args .s .now) (c .before .before .before .before .before .before .before .before .before .before .before .before .args .at) _ _ (omega arith) (c .before .before .before .before .wide2 .ensures .0) (c .before .before .before .before .before .before .before .wide .ensures .0) (omega arith) (c .before .if4 .left) (omega arith)
 
 shared-slice-read-wide-3 : tie.Need-shared-slice-read-wide-3
 shared-slice-read-wide-3 c = search needs
@@ -64,7 +64,7 @@ wide-requires-3 c κs = search needs
 
 returns-6 : tie.Need-returns-6
 returns-6 c =
-    low-head (c .before .before .before .before .before .before .before .before .before .before .before .before .before .before .before .args .s .now) (c .before .before .before .before .before .before .before .before .before .before .before .before .before .before .before .args .at) _ _ (omega arith) (c .before .before .before .before .before .before .before .wide2 .ensures .0) (c .before .before .before .before .before .before .before .before .before .before .wide .ensures .0) (c .before .before .before .before .before .if3 .left ∙ c .before .before .before .before .before .before .array-of .ensures .0) (c .before .before .before .before .if4 .left) _ (omega arith) (c .before .wide3 .ensures .0) (omega arith) (c .if6 .taken)
+    low-head (c .before .before .before .before .before .before .before .before .before .before .before .before .before .before .before .args .s .now) (c .before .before .before .before .before .before .before .before .before .before .before .before .before .before .before .args .at) _ _ (omega arith) (c .before .before .before .before .before .before .before .wide2 .ensures .0) (c .before .before .before .before .before .before .before .before .before .before .wide .ensures .0) (omega arith) (c .before .before .before .before .if4 .left) _ (omega arith) (c .before .wide3 .ensures .0) (omega arith) (c .if6 .taken)
 
 add-sized-at : tie.Need-add-sized-at
 add-sized-at c = search needs
@@ -74,15 +74,15 @@ sized-at-requires c κs = search needs
 
 returns-7 : tie.Need-returns-7
 returns-7 c =
-    rw (short-head (c .before .before .before .before .before .before .before .before .before .before .before .before .before .before .before .before .before .args .s .now) (c .before .before .before .before .before .before .before .before .before .before .before .before .before .before .before .before .before .args .at) _ _ (omega arith) (c .before .before .before .before .before .before .before .before .before .wide2 .ensures .0) (c .before .before .before .before .before .before .before .before .before .before .before .before .wide .ensures .0) (c .before .before .before .before .before .before .before .if3 .left ∙ c .before .before .before .before .before .before .before .before .array-of .ensures .0) (c .before .before .before .before .before .before .if4 .left) _ (omega arith) (c .before .before .before .wide3 .ensures .0) (omega arith) (c .before .before .if6 .left) (c .before .if7 .taken)) (c .sized-at .ensures)
+    rw (short-head (c .before .before .before .before .before .before .before .before .before .before .before .before .before .before .before .before .before .args .s .now) (c .before .before .before .before .before .before .before .before .before .before .before .before .before .before .before .before .before .args .at) _ _ (omega arith) (c .before .before .before .before .before .before .before .before .before .wide2 .ensures .0) (c .before .before .before .before .before .before .before .before .before .before .before .before .wide .ensures .0) (omega arith) (c .before .before .before .before .before .before .if4 .left) _ (omega arith) (c .before .before .before .wide3 .ensures .0) (omega arith) (c .before .before .if6 .left) (c .before .if7 .taken)) (c .sized-at .ensures)
 
 returns-8 : tie.Need-returns-8
 returns-8 c =
-    other-head (c .before .before .before .before .before .before .before .before .before .before .before .before .before .before .before .before .before .args .s .now) (c .before .before .before .before .before .before .before .before .before .before .before .before .before .before .before .before .before .args .at) _ _ (omega arith) (c .before .before .before .before .before .before .before .before .before .wide2 .ensures .0) (c .before .before .before .before .before .before .before .before .before .before .before .before .wide .ensures .0) (c .before .before .before .before .before .before .before .if3 .left ∙ c .before .before .before .before .before .before .before .before .array-of .ensures .0) (c .before .before .before .before .before .before .if4 .left) _ (omega arith) (c .before .before .before .wide3 .ensures .0) (omega arith) (c .before .if7 .left) (c .if8 .taken)
+    other-head (c .before .before .before .before .before .before .before .before .before .before .before .before .before .before .before .before .before .args .s .now) (c .before .before .before .before .before .before .before .before .before .before .before .before .before .before .before .before .before .args .at) _ _ (omega arith) (c .before .before .before .before .before .before .before .before .before .wide2 .ensures .0) (c .before .before .before .before .before .before .before .before .before .before .before .before .wide .ensures .0) (omega arith) (c .before .before .before .before .before .before .if4 .left) _ (omega arith) (c .before .before .before .wide3 .ensures .0) (omega arith) (c .before .if7 .left) (c .if8 .taken)
 
 returns-9 : tie.Need-returns-9
 returns-9 c =
-    no-length (c .before .before .before .before .before .before .before .before .before .before .before .before .before .before .before .before .before .before .args .s .now) (c .before .before .before .before .before .before .before .before .before .before .before .before .before .before .before .before .before .before .args .at) _ _ (omega arith) (c .before .before .before .before .before .before .before .before .before .before .wide2 .ensures .0) (c .before .before .before .before .before .before .before .before .before .before .before .before .before .wide .ensures .0) (c .before .before .before .before .before .before .before .before .if3 .left ∙ c .before .before .before .before .before .before .before .before .before .array-of .ensures .0) (c .before .before .before .before .before .before .before .if4 .left) _ (omega arith) (c .before .before .before .before .wide3 .ensures .0) (omega arith) (c .before .if8 .left) (omega arith)
+    no-length (c .before .before .before .before .before .before .before .before .before .before .before .before .before .before .before .before .before .before .args .s .now) (c .before .before .before .before .before .before .before .before .before .before .before .before .before .before .before .before .before .before .args .at) _ _ (omega arith) (c .before .before .before .before .before .before .before .before .before .before .wide2 .ensures .0) (c .before .before .before .before .before .before .before .before .before .before .before .before .before .wide .ensures .0) (omega arith) (c .before .before .before .before .before .before .before .if4 .left) _ (omega arith) (c .before .before .before .before .wide3 .ensures .0) (omega arith) (c .before .if8 .left) (omega arith)
 
 add-wide-2 : tie.Need-add-wide-2
 add-wide-2 c = search needs
@@ -95,7 +95,7 @@ wide-requires-4 c κs = search needs
 
 returns-10 : tie.Need-returns-10
 returns-10 c =
-    short-length (c .before .before .before .before .before .before .before .before .before .before .before .before .before .before .before .before .before .before .before .before .before .args .s .now) (c .before .before .before .before .before .before .before .before .before .before .before .before .before .before .before .before .before .before .before .before .before .args .at) _ _ (omega arith) (c .before .before .before .before .before .before .before .before .before .before .before .before .before .wide2 .ensures .0) (c .before .before .before .before .before .before .before .before .before .before .before .before .before .before .before .before .wide .ensures .0) (c .before .before .before .before .before .before .before .before .before .before .before .if3 .left ∙ c .before .before .before .before .before .before .before .before .before .before .before .before .array-of .ensures .0) (c .before .before .before .before .before .before .before .before .before .before .if4 .left) _ (omega arith) (c .before .before .before .before .before .before .before .wide3 .ensures .0) (omega arith) (c .before .before .before .before .if8 .left) _ (omega arith) (c .before .wide4 .ensures .0) (c .if10 .taken)
+    short-length (c .before .before .before .before .before .before .before .before .before .before .before .before .before .before .before .before .before .before .before .before .before .args .s .now) (c .before .before .before .before .before .before .before .before .before .before .before .before .before .before .before .before .before .before .before .before .before .args .at) _ _ (omega arith) (c .before .before .before .before .before .before .before .before .before .before .before .before .before .wide2 .ensures .0) (c .before .before .before .before .before .before .before .before .before .before .before .before .before .before .before .before .wide .ensures .0) (omega arith) (c .before .before .before .before .before .before .before .before .before .before .if4 .left) _ (omega arith) (c .before .before .before .before .before .before .before .wide3 .ensures .0) (omega arith) (c .before .before .before .before .if8 .left) _ (omega arith) (c .before .wide4 .ensures .0) (omega arith)
 
 add-sized-at-2 : tie.Need-add-sized-at-2
 add-sized-at-2 c = search needs
@@ -105,7 +105,7 @@ sized-at-requires-2 c κs = search needs
 
 returns-11 : tie.Need-returns-11
 returns-11 c =
-    rw (long-head (c .before .before .before .before .before .before .before .before .before .before .before .before .before .before .before .before .before .before .before .before .before .before .args .s .now) (c .before .before .before .before .before .before .before .before .before .before .before .before .before .before .before .before .before .before .before .before .before .before .args .at) _ _ (omega arith) (c .before .before .before .before .before .before .before .before .before .before .before .before .before .before .wide2 .ensures .0) (c .before .before .before .before .before .before .before .before .before .before .before .before .before .before .before .before .before .wide .ensures .0) (c .before .before .before .before .before .before .before .before .before .before .before .before .if3 .left ∙ c .before .before .before .before .before .before .before .before .before .before .before .before .before .array-of .ensures .0) (c .before .before .before .before .before .before .before .before .before .before .before .if4 .left) _ (omega arith) (c .before .before .before .before .before .before .before .before .wide3 .ensures .0) (omega arith) (c .before .before .before .before .before .if8 .left) _ (omega arith) (c .before .before .wide4 .ensures .0) (c .before .if10 .left)) (c .sized-at2 .ensures)
+    rw (long-head (c .before .before .before .before .before .before .before .before .before .before .before .before .before .before .before .before .before .before .before .before .before .before .args .s .now) (c .before .before .before .before .before .before .before .before .before .before .before .before .before .before .before .before .before .before .before .before .before .before .args .at) _ _ (omega arith) (c .before .before .before .before .before .before .before .before .before .before .before .before .before .before .wide2 .ensures .0) (c .before .before .before .before .before .before .before .before .before .before .before .before .before .before .before .before .before .wide .ensures .0) (omega arith) (c .before .before .before .before .before .before .before .before .before .before .before .if4 .left) _ (omega arith) (c .before .before .before .before .before .before .before .before .wide3 .ensures .0) (omega arith) (c .before .before .before .before .before .if8 .left) _ (omega arith) (c .before .before .wide4 .ensures .0) (omega arith)) (c .sized-at2 .ensures)
 
 pub cbor-item-at-spec : {M : Type 1} → statement M
 cbor-item-at-spec =

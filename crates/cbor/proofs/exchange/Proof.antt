@@ -25,7 +25,7 @@ refused-requires-2 c κs = search needs
 
 returns-2 : tie.Need-returns-2
 returns-2 c =
-    more-than-one (c .before .before .before .before .before .before .args .way) (c .before .before .before .before .before .before .args .s .now) (c .before .before .before .before .before .before .args .out .now) (λ i. omega (arith, c .before .before .before .before .before .shared-slice-known .given i)) _ (c .before .before .before .judge .ensures) _ (c .refused2 .ensures) (c .before .if2 .taken)
+    more-than-one (c .before .before .before .before .before .before .args .way) (c .before .before .before .before .before .before .args .s .now) (c .before .before .before .before .before .before .args .out .now) (λ i. omega (arith, c .before .before .before .before .before .shared-slice-known .given i)) _ (c .before .before .before .judge .ensures) _ (c .refused2 .ensures) (omega arith)
 
 enum-told : tie.Need-enum-told
 enum-told c = search needs
@@ -35,18 +35,18 @@ enum-told-2 c = search needs
 
 returns-3 : tie.Need-returns-3
 returns-3 c =
-    no-room (c .before .before .before .before .before .before .before .args .way) (c .before .before .before .before .before .before .before .args .s .now) (c .before .before .before .before .before .before .before .args .out .now) (λ i. omega (arith, c .before .before .before .before .before .before .shared-slice-known .given i)) _ (c .before .before .before .before .judge .ensures) (not-false _ (c .before .before .before .if1 .left)) (c .before .before .if2 .left) (c .enum-told2 .given .1)
+    no-room (c .before .before .before .before .before .before .before .args .way) (c .before .before .before .before .before .before .before .args .s .now) (c .before .before .before .before .before .before .before .args .out .now) (λ i. omega (arith, c .before .before .before .before .before .before .shared-slice-known .given i)) _ (c .before .before .before .before .judge .ensures) (not-false _ (c .before .before .before .if1 .left)) (omega arith) (c .enum-told2 .given .1)
 
 put-items-requires : tie.Need-put-items-requires
 put-items-requires c κs =
-    can-put (c .before .before .before .before .before .before .before .before .args .way) (c .before .before .before .before .before .before .before .before .args .s .now) (c .before .before .before .before .before .before .before .before .args .out .now) (λ i. omega (arith, c .before .before .before .before .before .before .before .shared-slice-known .given i)) _ (c .before .before .before .before .before .judge .ensures) (not-false _ (c .before .before .before .before .if1 .left)) (c .before .before .before .if2 .left) _ (c .before .enum-told .given .1)
+    can-put (c .before .before .before .before .before .before .before .before .args .way) (c .before .before .before .before .before .before .before .before .args .s .now) (c .before .before .before .before .before .before .before .before .args .out .now) (λ i. omega (arith, c .before .before .before .before .before .before .before .shared-slice-known .given i)) _ (c .before .before .before .before .before .judge .ensures) (not-false _ (c .before .before .before .before .if1 .left)) (omega arith) _ (c .before .enum-told .given .1)
 
 same-length : tie.Need-same-length
 same-length c = search needs
 
 returns-4 : tie.Need-returns-4
 returns-4 c =
-    was-put (c .before .before .before .before .before .before .before .before .before .before .before .args .way) (c .before .before .before .before .before .before .before .before .before .before .before .args .s .now) (c .before .before .before .before .before .before .before .before .before .before .before .args .out .now) (λ i. omega (arith, c .before .before .before .before .before .before .before .before .before .before .shared-slice-known .given i)) _ (c .before .before .before .before .before .before .before .before .judge .ensures) (not-false _ (c .before .before .before .before .before .before .before .if1 .left)) (c .before .before .before .before .before .before .if2 .left) _ _ _ (c .before .before .before .before .enum-told .given .1) (c .before .before .put-items .ensures)
+    was-put (c .before .before .before .before .before .before .before .before .before .before .before .args .way) (c .before .before .before .before .before .before .before .before .before .before .before .args .s .now) (c .before .before .before .before .before .before .before .before .before .before .before .args .out .now) (λ i. omega (arith, c .before .before .before .before .before .before .before .before .before .before .shared-slice-known .given i)) _ (c .before .before .before .before .before .before .before .before .judge .ensures) (not-false _ (c .before .before .before .before .before .before .before .if1 .left)) (omega arith) _ _ _ (c .before .before .before .before .enum-told .given .1) (c .before .before .put-items .ensures)
 
 pub exchange-spec : {M : Type 1} → statement M
 exchange-spec =
