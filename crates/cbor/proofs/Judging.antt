@@ -1,5 +1,5 @@
 -- What the walk that judges finds, by the record at its place, over plain lists.
-use Prim.Native.Nat.{ℕ, zero, suc, _+_, _-_, _≤_}
+use Prim.Native.Nat.{ℕ, zero, suc, _+_, _-_, _<_, _≤_}
 use mathlib.Core.Path.{_≡_, refl, sym, ap, subst, _∙_}
 use mathlib.Core.Bool.{true, false}
 use mathlib.Core.List.{List, [], _∷_, _++_}
@@ -9,6 +9,7 @@ use native.Mathlib.Nat.{not-suc-le-zero}
 use lib.ListN.{length, take, drop, length-append, length-drop}
 use lib.Seq.{drop-drop, drop-at, length-take-le}
 use lib.Dec.{T}
+use borrow.Author.Tests.{le-leb, lt-leb}
 use Rattle.hash_tree.specs.HashTree.{HashTree, Fork, Labeled}
 use Rattle.hash_tree.specs.Record.{most}
 use Rattle.hash_tree.specs.Parse.{Parsed, Got, Bad, byKind, labeled, forked, fork, Bytes}
@@ -17,12 +18,13 @@ use Rattle.hash_tree.proofs.Forms.{Opening, parsed-written}
 use Rattle.hash_tree.proofs.Lawfulness.{bytes-drop}
 use Rattle.hash_tree.proofs.ParseLaws as written-laws
 use Rattle.output.specs.declared.Room.{Room}
+use Rattle.output.specs.declared.Room.the-variants.{Left, Short}
 use Rattle.output.specs.Putting.{roomAfter}
 use Rattle.output.proofs.Putting.{room-then}
 use Rattle.cbor.specs.declared.Way.{Way}
 use Rattle.cbor.specs.declared.Way.the-variants.{Writing, Reading}
 use Rattle.cbor.specs.declared.Met.{Met}
-use Rattle.cbor.specs.Walks.{source, target, Lies, Takes, stopped, metOf}
+use Rattle.cbor.specs.Walks.{source, target, Lies, Takes, codeOf, roomOf, stopped, metOf}
 use Rattle.cbor.proofs.Opens as cbor-laws
 use Rattle.cbor.proofs.Sizes.{own-most}
 
@@ -36,6 +38,20 @@ no-true e = subst T e tt
 nil-of : (y : List ℕ) → length y ≡ 0 → y ≡ []
 nil-of [] e = refl
 nil-of (i ∷ y) e = absurd (omega (arith, e))
+
+-- ---- room, as a number
+
+pub room-code : (r : Room) → roomOf (codeOf r) ≡ r
+room-code Short = refl
+room-code (Left m) = refl
+
+pub less-fits : (room n : ℕ) → n < room → room - n ≡ codeOf (roomAfter n (roomOf room))
+less-fits zero n h = absurd (omega arith)
+less-fits (suc m) n h = rw (le-leb n m (omega arith)) (omega arith)
+
+pub less-short : (room n : ℕ) → room ≤ n → 0 ≡ codeOf (roomAfter n (roomOf room))
+less-short zero n h = refl
+less-short (suc m) n h = rw (lt-leb n m (omega arith))
 
 -- ---- by the kind of a record, for any two forms
 
@@ -57,10 +73,10 @@ module _ (n : ℕ) (g : Form) (room : Room) where
 
   -- what is left of s after the first child is s from the place on that the walk found
   pub fork-met : (s : List ℕ) (p : List ℕ → Parsed) (m : ℕ) (l q : Met) (z : Parsed) → n ≡ length s → ((t : HashTree) (rest : List ℕ) → z ≡ Got t rest → drop (n - length rest) s ≡ rest) → m ≡ length (g .put 1 [])
-      → l ≡ metOf n g (roomAfter m room) z → l .ok ≡ true → q ≡ metOf n g (l .room) (p (drop (l .next) s)) → q ≡ metOf n g room (fork p z)
+      → l ≡ metOf n g (roomAfter m room) z → l .ok ≡ true → q ≡ metOf n g (roomOf (l .room)) (p (drop (l .next) s)) → q ≡ metOf n g room (fork p z)
   fork-met s p m l q (Got t rest) en b em e f h =
       let x : l .next ≡ n - length rest = ap (λ (y : Met). y .next) e in
-      let y : l .room ≡ roomAfter (length (writeBy g t)) (roomAfter m room) = ap (λ (y : Met). y .room) e in
+      let y : roomOf (l .room) ≡ roomAfter (length (writeBy g t)) (roomAfter m room) = ap (λ (y : Met). roomOf (y .room)) e ∙ room-code (roomAfter (length (writeBy g t)) (roomAfter m room)) in
       let i : q ≡ metOf n g (roomAfter (length (writeBy g t)) (roomAfter m room)) (p rest) = rw (x, y, b t rest refl) at h in
       i ∙ forked-met t m (p rest) em
   fork-met s p m l q Bad en b em e f h = let y : true ≡ false = cc in absurd (no-true y)
@@ -72,7 +88,7 @@ module _ (n : ℕ) (g : Form) (room : Room) where
   labeled-met b m Bad e = refl
 
   pub single-met : (p : List ℕ → Parsed) (k m x : ℕ) (b r : List ℕ) → Fits k b → (k ≡ 1 → ⊥) → (k ≡ 2 → ⊥) → m ≡ length (g .put k b) → x ≡ n - length r
-      → record { ok = true; next = x; room = roomAfter m room } ≡ metOf n g room (byKind p k b r)
+      → record { ok = true; next = x; room = codeOf (roomAfter m room) } ≡ metOf n g room (byKind p k b r)
   unfolding most
   single-met p zero m x [] r h h₁ h₂ e f = rw (e, f)
   single-met p zero m x (y ∷ b) r h h₁ h₂ e f = absurd (not-suc-le-zero (h .high))
@@ -136,22 +152,22 @@ module _ (way : Way) (s : List ℕ) (at d k start len m : ℕ) (room : Room) (po
     at-fork : parseBy (source way) d (drop at s) ≡ fork (parseBy (source way) (d - 1)) (parseBy (source way) (d - 1) (drop (start + len) s))
     at-fork = by-kind ∙ rw e
 
-    pub judged-fork-bad : (r : Room) (l q : Met) → l ≡ metOf (length s) (target way) r (parseBy (source way) (d - 1) (drop (start + len) s)) → l .ok ≡ false → q ≡ stopped → Answers q
-    judged-fork-bad r l q i j x = rw at-fork (fork-bad (length s) (target way) room (parseBy (source way) (d - 1)) r l q (parseBy (source way) (d - 1) (drop (start + len) s)) i j x)
+    pub judged-fork-bad : (r : ℕ) (l q : Met) → l ≡ metOf (length s) (target way) (roomOf r) (parseBy (source way) (d - 1) (drop (start + len) s)) → l .ok ≡ false → q ≡ stopped → Answers q
+    judged-fork-bad r l q i j x = rw at-fork (fork-bad (length s) (target way) room (parseBy (source way) (d - 1)) (roomOf r) l q (parseBy (source way) (d - 1) (drop (start + len) s)) i j x)
 
-    pub judged-fork : Bytes s → (r : Room) (l q : Met) → r ≡ roomAfter m room → l ≡ metOf (length s) (target way) r (parseBy (source way) (d - 1) (drop (start + len) s)) → l .ok ≡ true
-        → q ≡ metOf (length s) (target way) (l .room) (parseBy (source way) (d - 1) (drop (l .next) s)) → Answers q
+    pub judged-fork : Bytes s → (r : ℕ) (l q : Met) → r ≡ codeOf (roomAfter m room) → l ≡ metOf (length s) (target way) (roomOf r) (parseBy (source way) (d - 1) (drop (start + len) s)) → l .ok ≡ true
+        → q ≡ metOf (length s) (target way) (roomOf (l .room)) (parseBy (source way) (d - 1) (drop (l .next) s)) → Answers q
     judged-fork bs r l q er i j x =
         rw at-fork
         (fork-met (length s) (target way) room s (parseBy (source way) (d - 1)) m l q (parseBy (source way) (d - 1) (drop (start + len) s)) refl
-        (left (source way) (opens way) s (d - 1) (start + len) bs (h .within)) fork-size (rw er at i) j x)
+        (left (source way) (opens way) s (d - 1) (start + len) bs (h .within)) fork-size (rw (er, room-code (roomAfter m room)) at i) j x)
 
-  pub judged-labeled : k ≡ 2 → (r : Room) (q : Met) → r ≡ roomAfter m room → q ≡ metOf (length s) (target way) r (parseBy (source way) (d - 1) (drop (start + len) s)) → Answers q
+  pub judged-labeled : k ≡ 2 → (r : ℕ) (q : Met) → r ≡ codeOf (roomAfter m room) → q ≡ metOf (length s) (target way) (roomOf r) (parseBy (source way) (d - 1) (drop (start + len) s)) → Answers q
   judged-labeled e r q er i =
       let f : parseBy (source way) d (drop at s) ≡ labeled bytes (parseBy (source way) (d - 1) (drop (start + len) s)) = by-kind ∙ rw e in
-      i ∙ rw (er, f) (labeled-met (length s) (target way) room bytes m (parseBy (source way) (d - 1) (drop (start + len) s)) (rw e at size))
+      i ∙ rw (er, room-code (roomAfter m room), f) (labeled-met (length s) (target way) room bytes m (parseBy (source way) (d - 1) (drop (start + len) s)) (rw e at size))
 
-  pub judged-single : (k ≡ 1 → ⊥) → (k ≡ 2 → ⊥) → (r : Room) → r ≡ roomAfter m room → Answers (record { ok = true; next = start + len; room = r })
+  pub judged-single : (k ≡ 1 → ⊥) → (k ≡ 2 → ⊥) → (r : ℕ) → r ≡ codeOf (roomAfter m room) → Answers (record { ok = true; next = start + len; room = r })
   judged-single h₁ h₂ r er =
       rw (by-kind, er)
       (single-met (length s) (target way) room (parseBy (source way) (d - 1)) k m (start + len) bytes (drop (start + len) s) (h .lawful) h₁ h₂ size (omega (arith, length-drop (start + len) s, h .within)))

@@ -2,14 +2,14 @@
 use mathlib.Core.Path.{_≡_}
 use mathlib.Core.Bool.{true, false}
 use mathlib.Core.List.{List, [], _∷_}
-use Prim.Native.Nat.{ℕ, _+_, _-_, _≤_}
+use Prim.Native.Nat.{ℕ, zero, suc, _+_, _-_, _≤_}
 use lib.ListN.{length, take, drop}
 use Rattle.answers.specs.Numbers.{Refusal, Malformed, NotCbor}
 use Rattle.hash_tree.specs.Written.{maxDepth}
 use Rattle.hash_tree.specs.Parse.{Parsed, Got, Bad}
 use Rattle.hash_tree.specs.Form.{Front, Taken, Shut, Form, Fits, writeBy, parseBy, written}
 use Rattle.output.specs.declared.Room.{Room}
-use Rattle.output.specs.declared.Room.the-variants.{Short}
+use Rattle.output.specs.declared.Room.the-variants.{Left, Short}
 use Rattle.output.specs.Putting.{Puts, roomAfter}
 use Rattle.cbor.specs.declared.Way.{Way}
 use Rattle.cbor.specs.declared.Way.the-variants.{Writing, Reading}
@@ -57,12 +57,21 @@ Takes way k n m = (b : List ℕ) → length b ≡ n → m ≡ length (target way
 
 -- ---- a tree, judged
 
+-- a room as one number: one more than what is left, 0 if it is short
+abbrev pub codeOf : Room → ℕ
+codeOf Short = 0
+codeOf (Left m) = suc m
+
+abbrev pub roomOf : ℕ → Room
+roomOf zero = Short
+roomOf (suc m) = Left m
+
 abbrev pub stopped : Met
-stopped = record { ok = false; next = 0; room = Short }
+stopped = record { ok = false; next = 0; room = 0 }
 
 -- the place after a tree that was read in a list of n, and what its other form leaves of the room
 abbrev pub metOf : (n : ℕ) → Form → Room → Parsed → Met
-metOf n g room (Got t rest) = record { ok = true; next = n - length rest; room = roomAfter (length (writeBy g t)) room }
+metOf n g room (Got t rest) = record { ok = true; next = n - length rest; room = codeOf (roomAfter (length (writeBy g t)) room) }
 metOf n g room Bad = stopped
 
 -- ---- records put one after the other

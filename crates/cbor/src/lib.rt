@@ -16,8 +16,6 @@ use hash_tree::left_at;
 use hash_tree::most_len;
 use hash_tree::record_at;
 use hash_tree::wide;
-use output::Room;
-use output::less;
 use output::put_bytes;
 use output::put_piece;
 ghost use mathlib.Core.Path.{_≡_};
@@ -28,10 +26,10 @@ ghost use Rattle.answers.specs.Numbers.{numberOf};
 ghost use Rattle.answers.specs.Answers.{answered, unwritten};
 ghost use Rattle.hash_tree.specs.Written.{maxDepth};
 ghost use Rattle.hash_tree.specs.Form.{Fits, parseBy};
-ghost use Rattle.output.specs.Putting.{Puts};
+ghost use Rattle.output.specs.Putting.{Puts, roomAfter};
 ghost use Rattle.cbor.specs.Cbor.{arrayOf, stringHead, putCbor, sized, cborFront};
 ghost use Rattle.cbor.specs.Answer.{cborWritten, cborRead};
-ghost use Rattle.cbor.specs.Walks.{source, target, refusalOf, sourceOf, exchanged, Reads, Takes, stopped, metOf, CanPut, Wrote};
+ghost use Rattle.cbor.specs.Walks.{source, target, refusalOf, sourceOf, exchanged, Reads, Takes, codeOf, roomOf, stopped, metOf, CanPut, Wrote};
 
 // The longest byte string whose head is one byte, plus one; and what such a head, and one of two bytes, begins with.
 const SHORT: usize = 24;
@@ -56,11 +54,12 @@ pub enum Item {
     Nothing,
 }
 
-// A tree that may be exchanged: the place after it, and the room that its other form leaves.
+// A tree that may be exchanged: the place after it, and the room that its other form leaves: one more than that, 0 if it is short. A number goes
+// through calls in a register.
 pub struct Met {
     pub ok: bool,
     pub next: usize,
-    pub room: Room,
+    pub room: usize,
 }
 
 // The byte that opens the array of a kind.
@@ -233,41 +232,57 @@ fn no_tree() -> Met
     Met {
         ok: false,
         next: 0,
-        room: Room::Short,
+        room: 0,
     }
 }
 
-// Judges the tree at a place, at most `depth` records deep, and takes the room of its other form.
-fn judge(s: &[u8], at: usize, depth: usize, room: Room, way: Way) -> Met
-    requires { ⌜ depth ≤ maxDepth ⌝ }
-    ensures { λ r. ⌜ r ≡ metOf (length (now (s .entry))) (target way) room (parseBy (source way) depth (drop at (now (s .entry)))) ⌝ }
+// `n` bytes out of a room.
+fn less(room: usize, n: usize) -> usize
+    ensures { λ r. ⌜ r ≡ codeOf (roomAfter n (roomOf room)) ⌝ }
 {
-    if depth == 0 {
-        return no_tree();
-    }
-    let Item::Whole { kind, start, len } = item_at(s, at, way) else {
-        return no_tree();
-    };
-    let next = start + len;
-    let left = less(room, put_len(way, kind, len));
-    if kind == FORK {
-        let l = judge(s, next, depth - 1, left, way);
-        let ok = l.ok;
-        if !ok {
+    if n < room { room - n } else { 0 }
+}
+
+// Judges the tree at a place, at most `depth` records deep, and takes the room of its other form. Only a Fork's first child is a call: what
+// stands in a tree's last place goes on here.
+fn judge(s: &[u8], start: usize, depth: usize, room: usize, way: Way) -> Met
+    requires { ⌜ depth ≤ maxDepth ⌝ }
+    ensures { λ r. ⌜ r ≡ metOf (length (now (s .entry))) (target way) (roomOf room) (parseBy (source way) depth (drop start (now (s .entry)))) ⌝ }
+{
+    let mut at = start;
+    let mut below = depth;
+    let mut left = room;
+    while below != 0 {
+        let Item::Whole {
+            kind,
+            start: from,
+            len,
+        } = item_at(s, at, way)
+        else {
             return no_tree();
+        };
+        left = less(left, put_len(way, kind, len));
+        at = from + len;
+        below -= 1;
+        if kind == FORK {
+            let l = judge(s, at, below, left, way);
+            let ok = l.ok;
+            if !ok {
+                return no_tree();
+            }
+            at = l.next;
+            left = l.room;
+            continue;
         }
-        let middle = l.next;
-        let after = l.room;
-        return judge(s, middle, depth - 1, after, way);
+        if kind != LABELED {
+            return Met {
+                ok: true,
+                next: at,
+                room: left,
+            };
+        }
     }
-    if kind == LABELED {
-        return judge(s, next, depth - 1, left, way);
-    }
-    Met {
-        ok: true,
-        next,
-        room: left,
-    }
+    no_tree()
 }
 
 // Puts the records of a tree in its other form, one after the other; there is room for them.
@@ -307,7 +322,7 @@ fn refused(way: Way) -> Saved
 fn exchange(s: &[u8], out: &mut [u8], way: Way) -> Saved
     ensures { λ r. ⌜ answered r (now (out .exit)) ≡ exchanged way (now (s .entry)) (now (out .entry)) ⌝ }
 {
-    let m = judge(s, 0, MAX_DEPTH, Room::Left(out.len()), way);
+    let m = judge(s, 0, MAX_DEPTH, out.len() + 1, way);
     let ok = m.ok;
     if !ok {
         return refused(way);
@@ -316,13 +331,12 @@ fn exchange(s: &[u8], out: &mut [u8], way: Way) -> Saved
     if next < s.len() {
         return refused(way);
     }
-    let room = m.room;
-    let Room::Left(_) = room else {
+    if m.room == 0 {
         return Saved {
             number: NO_ROOM,
             size: 0,
         };
-    };
+    }
     let size = put_items(s, out, way);
     Saved { number: 0, size }
 }
