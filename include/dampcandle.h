@@ -52,6 +52,7 @@ enum dampcandle_number {
   DAMPCANDLE_MALFORMED = 9,    /* rebuild: the bytes are not exactly one witness */
   DAMPCANDLE_LONG_MESSAGE = 10, /* hash: the message is longer than 65,536 bytes */
   DAMPCANDLE_ILL_FORMED = 11,  /* lookup: the witness breaks the Interface Specification's rule for well-formed trees */
+  DAMPCANDLE_NOT_CBOR = 12,    /* read_cbor: the bytes are not exactly one witness in CBOR, with shortest heads and no tag */
   DAMPCANDLE_UNLIKE = 15       /* merge: the two are not witnesses of one release */
 };
 
@@ -61,7 +62,8 @@ enum dampcandle_limit {
   DAMPCANDLE_MAX_VALUE = 64,
   DAMPCANDLE_MAX_CAPACITY = 1024,
   DAMPCANDLE_MAX_MESSAGE = 65536,
-  DAMPCANDLE_MAX_WITNESS = 120830 /* the longest witness that a store can give: room for any answer */
+  DAMPCANDLE_MAX_WITNESS = 120830, /* the longest witness that a store can give: room for any answer */
+  DAMPCANDLE_MAX_CBOR = 124926     /* and its CBOR: two bytes more for each label and value */
 };
 
 #define DAMPCANDLE_STORE_LENGTH(capacity) (8 + 150 * (size_t)(capacity))
@@ -156,6 +158,14 @@ size_t dampcandle_lookup(const uint8_t *witness, size_t witness_length, const ui
 size_t dampcandle_merge(const uint8_t *one, size_t one_length, const uint8_t *other, size_t other_length, uint8_t *out, size_t out_length,
                         size_t *length);
 
+/* A witness in CBOR, as the Internet Computer's certificate tools write hash trees: [0], [1, l, r], [2, label, t], [3, value], [4, digest], each
+ * length in its shortest head, no tag. 0, 9 or 6. The output is another buffer than the input. */
+size_t dampcandle_write_cbor(const uint8_t *witness, size_t witness_length, uint8_t *out, size_t out_length, size_t *length);
+
+/* Back: the witness that the CBOR holds. 0, 12 or 6. It takes exactly what dampcandle_write_cbor writes; other CBOR of the same tree, with a tag in
+ * front or a longer head, is 12. Rebuild gives the digest as before. */
+size_t dampcandle_read_cbor(const uint8_t *cbor, size_t cbor_length, uint8_t *out, size_t out_length, size_t *length);
+
 /* ---- rebuild in parts, for a witness that comes over a slow link. The state is plain bytes: it may be copied and kept, and means nothing before
  * it is begun. part answers 9 as soon as no witness can begin with the bytes so far, and from then on; else 0. end answers what rebuild
  * answers for all the bytes so far; it may be asked at any time, and parts may follow. */
@@ -206,6 +216,7 @@ static inline const char *dampcandle_text(size_t number) {
     case DAMPCANDLE_MALFORMED: return "the bytes are not exactly one witness";
     case DAMPCANDLE_LONG_MESSAGE: return "the message is longer than 65,536 bytes";
     case DAMPCANDLE_ILL_FORMED: return "the witness is not well-formed";
+    case DAMPCANDLE_NOT_CBOR: return "the bytes are not exactly one witness in CBOR";
     case DAMPCANDLE_UNLIKE: return "these are not two witnesses of one release";
     default: return "a number that this header does not know";
   }
