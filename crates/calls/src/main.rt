@@ -3,8 +3,8 @@
 // begins with the number of document 01. `?` answers a line that it does not know, bad hex, or a number that does not fit.
 //
 // Landed: every line of the base: buffer, load, poke, room, create, insert, modify, delete, get, first, next, count, empty, root,
-// full, keys, witness, krange, vrange, prefix, rebuild, hash, store, sum; of the later requests ask (Q-1), merge (Q-14), and begin, part,
-// end (Q-8). 4 is by the rule of Q-7.
+// full, keys, witness, krange, vrange, prefix, rebuild, hash, store, sum; of the later requests ask (Q-1), merge (Q-14), begin, part,
+// end (Q-8), and tocbor, fromcbor (Q-9). 4 is by the rule of Q-7.
 mod asked;
 mod input;
 mod lines;
