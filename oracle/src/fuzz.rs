@@ -114,13 +114,15 @@ fn reading(r: &mut Random, store: &Store) -> Vec<String> {
             vec![format!("room {}", room.min(131_072)), format!("tocbor {}", hex(&one))]
         }
         5 => {
-            let mut bytes = cbor::of(&one).unwrap_or(one);
+            let whole = cbor::of(&other);
+            let lawful = whole.is_some();
+            let mut bytes = whole.unwrap_or(one);
             match r.below(9) {
                 0 => turn_bit(r, &mut bytes),
                 1 => bytes.truncate(r.below(bytes.len() + 1)),
                 2 => bytes.extend(record(r)),
                 3 => bytes = any_bytes(r),
-                way @ 4..=6 if !bytes.is_empty() && bytes[0] & 0xf0 == 0x80 => bytes = cbor::otherwise(&bytes, way, r.below(1000)),
+                way @ 4..=6 if lawful => bytes = cbor::otherwise(&bytes, way, r.below(1000)),
                 _ => (),
             }
             let room = [131_072, bytes.len(), other.len(), r.below(bytes.len() + 2)][r.below(4)];
