@@ -18,7 +18,8 @@
  *
  * Stack, measured on x86-64 over a store of 1,024 entries with the longest keys and values (scripts/c-stack.sh): create 40 bytes, hash 1,336;
  * is_empty, count, root_hash, get, first_entry, next_entry, insert, modify and delete up to 6,100; the witness calls up to 12,100;
- * rebuild 14,600 for a store's own witness, and up to 46,300 for bytes that are nested 64 records deep. Nothing is allocated.
+ * rebuild 14,600 for a store's own witness, and up to 46,300 for bytes that are nested 64 records deep; write_cbor and read_cbor 2,000 and up to
+ * 9,500. Nothing is allocated.
  *
  * Keys are byte strings of 0 to 48 bytes, in the order of their bytes as unsigned numbers, a proper prefix being smaller. Values are
  * byte strings of 0 to 64 bytes. */
