@@ -16,9 +16,10 @@
  * A store is 8 + 150 x capacity bytes (DAMPCANDLE_STORE_LENGTH), with room for capacity entries. It holds no pointers: it may be copied,
  * kept in a file and lent at another place. Every call judges it anew, all of it, and answers 1 unless it is sound.
  *
- * Stack, measured on x86-64 over a store of 1,024 entries with the longest keys and values (scripts/c-stack.sh): create 8 bytes, hash 1,100;
- * is_empty, count, root_hash, get, first_entry, next_entry, insert, modify, delete and replay up to 6,700; the witness calls up to 8,300;
- * rebuild 9,000 for a store's own witness, and up to 27,000 for bytes that are nested 64 records deep. Nothing is allocated.
+ * Stack, measured on x86-64 over a store of 1,024 entries with the longest keys and values (scripts/c-stack.sh): create 40 bytes, hash 1,336;
+ * is_empty, count, root_hash, get, first_entry, next_entry, insert, modify, delete and replay up to 6,700; the witness calls up to 12,100;
+ * rebuild 14,600 for a store's own witness, and up to 46,300 for bytes that are nested 64 records deep; write_cbor and read_cbor 2,000 and up to
+ * 9,500. Nothing is allocated.
  *
  * Keys are byte strings of 0 to 48 bytes, in the order of their bytes as unsigned numbers, a proper prefix being smaller. Values are
  * byte strings of 0 to 64 bytes. */
@@ -52,6 +53,7 @@ enum dampcandle_number {
   DAMPCANDLE_MALFORMED = 9,    /* rebuild: the bytes are not exactly one witness */
   DAMPCANDLE_LONG_MESSAGE = 10, /* hash: the message is longer than 65,536 bytes */
   DAMPCANDLE_ILL_FORMED = 11,  /* lookup: the witness breaks the Interface Specification's rule for well-formed trees */
+  DAMPCANDLE_NOT_CBOR = 12,    /* read_cbor: the bytes are not exactly one witness in CBOR, with shortest heads and no tag */
   DAMPCANDLE_BAD_LOG = 13,     /* replay: the build log is malformed */
   DAMPCANDLE_UNLIKE = 15       /* merge: the two are not witnesses of one release */
 };
@@ -62,7 +64,8 @@ enum dampcandle_limit {
   DAMPCANDLE_MAX_VALUE = 64,
   DAMPCANDLE_MAX_CAPACITY = 1024,
   DAMPCANDLE_MAX_MESSAGE = 65536,
-  DAMPCANDLE_MAX_WITNESS = 120830 /* the longest witness that a store can give: room for any answer */
+  DAMPCANDLE_MAX_WITNESS = 120830, /* the longest witness that a store can give: room for any answer */
+  DAMPCANDLE_MAX_CBOR = 124926     /* and its CBOR: two bytes more for each label and value */
 };
 
 #define DAMPCANDLE_STORE_LENGTH(capacity) (8 + 150 * (size_t)(capacity))
@@ -163,6 +166,14 @@ size_t dampcandle_lookup(const uint8_t *witness, size_t witness_length, const ui
 size_t dampcandle_merge(const uint8_t *one, size_t one_length, const uint8_t *other, size_t other_length, uint8_t *out, size_t out_length,
                         size_t *length);
 
+/* A witness in CBOR, as the Internet Computer's certificate tools write hash trees: [0], [1, l, r], [2, label, t], [3, value], [4, digest], each
+ * length in its shortest head, no tag. 0, 9 or 6. The output is another buffer than the input. */
+size_t dampcandle_write_cbor(const uint8_t *witness, size_t witness_length, uint8_t *out, size_t out_length, size_t *length);
+
+/* Back: the witness that the CBOR holds. 0, 12 or 6. It takes exactly what dampcandle_write_cbor writes; other CBOR of the same tree, with a tag in
+ * front or a longer head, is 12. Rebuild gives the digest as before. */
+size_t dampcandle_read_cbor(const uint8_t *cbor, size_t cbor_length, uint8_t *out, size_t out_length, size_t *length);
+
 /* ---- rebuild in parts, for a witness that comes over a slow link. The state is plain bytes: it may be copied and kept, and means nothing before
  * it is begun. part answers 9 as soon as no witness can begin with the bytes so far, and from then on; else 0. end answers what rebuild
  * answers for all the bytes so far; it may be asked at any time, and parts may follow. */
@@ -213,6 +224,7 @@ static inline const char *dampcandle_text(size_t number) {
     case DAMPCANDLE_MALFORMED: return "the bytes are not exactly one witness";
     case DAMPCANDLE_LONG_MESSAGE: return "the message is longer than 65,536 bytes";
     case DAMPCANDLE_ILL_FORMED: return "the witness is not well-formed";
+    case DAMPCANDLE_NOT_CBOR: return "the bytes are not exactly one witness in CBOR";
     case DAMPCANDLE_BAD_LOG: return "the build log is malformed";
     case DAMPCANDLE_UNLIKE: return "these are not two witnesses of one release";
     default: return "a number that this header does not know";

@@ -1,7 +1,7 @@
 #!/usr/bin/env python3
 """record-calls.py ORACLE: writes crates/calls/stdin and stdout, the script of `calls` that the gate replays and what it must answer.
 
-The lines: the published vectors of SHA-256; the Interface Specification's worked tree, rebuilt and asked; document 01's examples that
+The lines: the published vectors of SHA-256; the Interface Specification's worked tree, rebuilt, asked and exchanged; document 01's examples that
 are not starred, at the limits and one past them; a sound store with each of its bits turned; sound stores that no history makes, and
 lies whose digests are right; and a random history. A line that begins with # is a heading, and is answered as any line that is none.
 The answers are the oracle's (ORACLE, built by scripts/oracle.sh); those that are published are compared with what is published."""
@@ -96,6 +96,23 @@ say("# merged with its cut form, it comes back; beside Empty alone it is refused
 answers("room 200", "ok")
 answers(f"merge {cut.hex()} {whole.hex()}", f"0 {len(whole)} {whole.hex()} 0")
 answers(f"merge {whole.hex()} {empty.hex()}", "15 0 - 0")
+say("# in CBOR, as the specification gives it, and back; a tag in front, a longer head and an array without its length are refused")
+cbor = (
+    "8301830183024161830183018302417882034568656c6c6f810083024179820345776f726c6483024162820344676f6f64"
+    "8301830241638100830241648203476d6f726e696e67"
+)
+answers(f"tocbor {whole.hex()}", f"0 {len(cbor) // 2} {cbor} 0")
+answers(f"fromcbor {cbor}", f"0 {len(whole)} {whole.hex()} 0")
+answers("tocbor 400161600107", "0 8 8302416182034107 0")
+answers("fromcbor 8302416182034107", "0 6 400161600107 0")
+for other in ["d9d9f7" + cbor, "830258016182034107", "9f008100ff", cbor[:-2], cbor + "00"]:
+    answers(f"fromcbor {other}", "12 0 - 0")
+answers("tocbor 40", "9 0 - 0")
+for line, room in [(f"tocbor {whole.hex()}", len(cbor) // 2), (f"fromcbor {cbor}", len(whole))]:
+    answers(f"room {room - 1}", "ok")
+    answers(line, "6 0 - 0")
+    answers(f"room {room}", "ok")
+    answers(line, f"0 {room} ")
 say("# in parts, one of them empty; a kind that is none is certain at once, and stays")
 answers("part " + whole.hex()[:20], "0")
 answers("part -", "0")

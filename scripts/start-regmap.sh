@@ -9,7 +9,7 @@ shift 2
 out=
 case ${1-} in
 set | add | unset | replay) out=${2-} ;;
-build | witness | range | prefix | full) out=${3-} ;;
+build | witness | range | prefix | full | cbor | uncbor) out=${3-} ;;
 merge) out=${4-} ;;
 esac
 mode=

@@ -272,6 +272,20 @@ try 2 'may not be written' replay u.store uart.log
 holds 'a file that may not be written was' cmp -s u.store kept.store
 chmod 600 u.store
 holds 'a log from standard input' bash -c "'$tool' replay u.store - <uart.log | grep -q '5 records'"
+# ---- cbor and uncbor
+try 0 $D cbor ask.w ask.cbor
+try 0 $D uncbor ask.cbor back.w
+holds 'there and back is another witness' cmp -s ask.w back.w
+holds 'an example has two forms' bash -c "'$tool' cbor '$top/examples/irq.witness' - 2>/dev/null | cmp -s - '$top/examples/irq.cbor'"
+try 0 $D cbor ask.w ask.cbor
+try 2 'is no CBOR' cbor ask.w hole.w
+try 2 'is no witness' uncbor ask.cbor ask.cbor
+try 1 '(12)' uncbor ask.w none.w
+try 1 'use uncbor' check ask.cbor $D
+printf '\xd9\xd9\xf7' | cat - ask.cbor >tagged.cbor
+try 1 '(12)' uncbor tagged.cbor none.w
+holds 'a refused uncbor wrote' test ! -e none.w
+try 2 'too few words' cbor ask.w
 
 # ---- the page: no script in it, and where Chromium is there it draws it
 "$tool" html ctrl.w $D >page.html

@@ -12,7 +12,8 @@ enum { ROOM = 1 << 18, ENTRIES = DAMPCANDLE_MAX_CAPACITY, LENGTH = 8 + 150 * ENT
 
 static uint8_t stack[ROOM], store[LENGTH], out[DAMPCANDLE_MAX_WITNESS], whole[DAMPCANDLE_MAX_WITNESS], digest[32], value[64];
 static uint8_t key[48], other[48], message[DAMPCANDLE_MAX_MESSAGE];
-static size_t length, whole_length, at[4], number;
+static uint8_t cbor[DAMPCANDLE_MAX_CBOR];
+static size_t length, whole_length, cbor_length, at[4], number;
 static bool yes;
 static ucontext_t home, away;
 static void (*call)(void);
@@ -58,6 +59,8 @@ static void value_range(void) { number = dampcandle_value_range(store, LENGTH, k
 static void prefix(void) { number = dampcandle_keys_with_prefix(store, LENGTH, key, 46, out, sizeof out, &length); }
 static void rebuild(void) { number = dampcandle_rebuild(whole, whole_length, digest); }
 static void deep(void) { number = dampcandle_rebuild(out, 2 * 64, digest); }
+static void write_cbor(void) { number = dampcandle_write_cbor(whole, whole_length, cbor, sizeof cbor, &cbor_length); }
+static void read_cbor(void) { number = dampcandle_read_cbor(cbor, cbor_length, out, sizeof out, &length); }
 static void hash(void) { number = dampcandle_hash(message, sizeof message, digest); }
 
 static void start(void) { call(); }
@@ -115,9 +118,15 @@ int main(void) {
   measure("value_range", value_range, 0);
   measure("keys_with_prefix", prefix, 0);
   measure("rebuild", rebuild, 0);
+  measure("write_cbor", write_cbor, 0);
+  measure("read_cbor", read_cbor, 0);
   for (size_t i = 0; i < 63; i++) memcpy(out + 2 * i, "\x40", 2); /* 63 Labeled, one in the other, and an Empty */
   memset(out + 126, 0, 2);
   measure("rebuild, 64 deep", deep, 0);
+  memset(whole, 0, whole_length = 254); /* 63 Forks, each the first child of another, and 64 Empty */
+  for (size_t i = 0; i < 63; i++) whole[2 * i] = 0x20;
+  measure("write_cbor, deep", write_cbor, 0);
+  measure("read_cbor, deep", read_cbor, 0);
   measure("hash", hash, 0);
   for (unsigned i = 0; i < ENTRIES; i++) {
     name(key, i * 387 % ENTRIES);

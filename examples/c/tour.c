@@ -210,6 +210,25 @@ static void known(void) {
   expect(!memcmp(digest, abc, 32), "FIPS 180-4");
 }
 
+/* ---- the witness of a, which stands at the front of the output, in CBOR for the certificate tools, and back */
+
+static void exchange(void) {
+  const uint8_t in_cbor[8] = {0x83, 0x02, 0x41, 0x61, 0x82, 0x03, 0x41, 0x07}, tagged[5] = {0xd9, 0xd9, 0xf7, 0x81, 0x00};
+  uint8_t one[6], cbor[8] = {0};
+  memcpy(one, out, 6);
+  answers(0, dampcandle_write_cbor(one, 6, cbor, 8, &length), "write_cbor");
+  show("CBOR", cbor, length);
+  expect(length == 8 && !memcmp(cbor, in_cbor, 8), "the CBOR of a");
+  keep();
+  refused(9, dampcandle_write_cbor(one, 5, out, ROOM, &length), "write_cbor, a byte short");
+  refused(6, dampcandle_write_cbor(one, 6, out, 7, &length), "write_cbor, output of 7 bytes");
+  refused(12, dampcandle_read_cbor(tagged, 5, out, ROOM, &length), "read_cbor, a tag in front");
+  refused(6, dampcandle_read_cbor(cbor, 8, out, 5, &length), "read_cbor, output of 5 bytes");
+  answers(0, dampcandle_read_cbor(cbor, 8, out, ROOM, &length), "read_cbor");
+  show("witness", out, length);
+  expect(length == 6 && !memcmp(out, one, 6), "there and back");
+}
+
 static void capacities(void) {
   static uint8_t large[DAMPCANDLE_STORE_LENGTH(1025)]; /* all zero */
   answers(8, dampcandle_create(large, DAMPCANDLE_STORE_LENGTH(0), 0), "create, capacity 0");
@@ -255,6 +274,7 @@ int main(void) {
   witnesses();
   refusals();
   known();
+  exchange();
   capacities();
   replays();
   puts("as expected");

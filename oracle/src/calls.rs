@@ -1,5 +1,6 @@
 //! The program `calls`, a line at a time, answered by the Rust's own map.
 use crate::hash_tree::{rebuild, HashTree};
+use crate::cbor::{fromcbor, tocbor};
 use crate::logs::{edits, Edit};
 use crate::readings::{ask, merge, Parts};
 use crate::rb_tree::AsHashTree;
@@ -283,6 +284,8 @@ impl Calls {
             },
             ["ask", w, k] => ask(&unhex(w)?, &unhex(k)?),
             ["merge", one, other] => merge(&unhex(one)?, &unhex(other)?, self.room),
+            ["tocbor", w] => tocbor(&unhex(w)?, self.room),
+            ["fromcbor", c] => fromcbor(&unhex(c)?, self.room),
             ["begin"] => self.parts.begin(),
             ["part", bytes] => self.parts.part(&unhex(bytes)?),
             ["end"] => self.parts.end(),

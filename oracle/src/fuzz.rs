@@ -1,6 +1,7 @@
 //! Scripts for `calls` in which any bytes may arrive: stores random or damaged, keys and values of every length, outputs about the
 //! witness's length, witnesses random or damaged, lines that are none. After each call stands `sum`, so that a change shows.
 use crate::calls::{crossed, hex};
+use crate::cbor;
 use crate::hash_tree::{empty, fork, labeled, leaf, pruned, HashTree, HashTreeNode};
 use crate::lies::damaged;
 use crate::logs::log;
@@ -108,7 +109,26 @@ fn reading(r: &mut Random, store: &Store) -> Vec<String> {
         turn_bit(r, &mut pair[1]);
     }
     let [one, other] = pair;
-    match r.below(4) {
+    match r.below(6) {
+        4 => {
+            let room = [131_072, one.len() + r.below(3), one.len() * 3 / 2][r.below(3)];
+            vec![format!("room {}", room.min(131_072)), format!("tocbor {}", hex(&one))]
+        }
+        5 => {
+            let whole = cbor::of(&other);
+            let lawful = whole.is_some();
+            let mut bytes = whole.unwrap_or(one);
+            match r.below(9) {
+                0 => turn_bit(r, &mut bytes),
+                1 => bytes.truncate(r.below(bytes.len() + 1)),
+                2 => bytes.extend(record(r)),
+                3 => bytes = any_bytes(r),
+                way @ 4..=6 if lawful => bytes = cbor::otherwise(&bytes, way, r.below(1000)),
+                _ => (),
+            }
+            let room = [131_072, bytes.len(), other.len(), r.below(bytes.len() + 2)][r.below(4)];
+            vec![format!("room {}", room.min(131_072)), format!("fromcbor {}", hex(&bytes))]
+        }
         0 => {
             let room = [131_072, one.len(), other.len(), one.len() + 1, r.below(one.len() + 2)][r.below(5)];
             vec![format!("room {}", room.min(131_072)), format!("merge {} {}", hex(&one), hex(&other))]

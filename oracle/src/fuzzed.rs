@@ -19,14 +19,16 @@ fn numbers(call: &str) -> &'static [usize] {
         "rebuild" | "part" | "end" => &[0, 9],
         "ask" => &[0, 2, 9, 11],
         "merge" => &[0, 6, 9, 15],
+        "tocbor" => &[0, 6, 9],
+        "fromcbor" => &[0, 6, 12],
         "hash" => &[0, 10],
         _ => &[],
     }
 }
 
-const CALLS: [&str; 23] = [
+const CALLS: [&str; 25] = [
     "create", "insert", "modify", "delete", "get", "first", "next", "count", "empty", "root", "full", "keys", "witness", "krange", "vrange",
-    "prefix", "rebuild", "hash", "ask", "merge", "part", "end", "replay",
+    "prefix", "rebuild", "hash", "ask", "merge", "part", "end", "tocbor", "fromcbor", "replay",
 ];
 
 /// What stands after the number of a refused call.
@@ -38,7 +40,7 @@ fn refused(call: &str) -> String {
         "empty" => " no".into(),
         "ask" => " refused 0 0".into(),
         "root" | "rebuild" | "hash" | "end" => format!(" {}", "00".repeat(32)),
-        "full" | "keys" | "witness" | "krange" | "vrange" | "prefix" | "merge" => " 0 - 0".into(),
+        "full" | "keys" | "witness" | "krange" | "vrange" | "prefix" | "merge" | "tocbor" | "fromcbor" => " 0 - 0".into(),
         _ => String::new(),
     }
 }

@@ -10,6 +10,7 @@
 //! rb_tree/mod.rs and nested_rb_tree.rs are the customer's files, unchanged; `hash_tree` is a stand-in written from the Interface Specification.
 mod calls;
 mod cases;
+mod cbor;
 mod fuzz;
 mod fuzzed;
 mod hash_tree;

@@ -1,7 +1,8 @@
 //! Random scripts for `calls`: histories on stores of many capacities, with keys that share fronts, lie side by side or are
 //! extreme, refused calls and build logs among them, every witness call at present, absent and extreme bounds, and damaged stores; and the witnesses
-//! that come out asked, merged and rebuilt in parts, as they are and damaged.
+//! that come out asked, merged, written in CBOR and back, and rebuilt in parts, as they are and damaged.
 use crate::calls::{hex, unhex, Calls};
+use crate::cbor;
 use crate::logs::log;
 
 pub struct Random(u64);
@@ -105,8 +106,8 @@ fn replays(r: &mut Random, keys: &mut Keys, capacity: usize) -> Vec<String> {
     (from..=bytes.len()).flat_map(|n| [format!("replay {}", hex(&bytes[..n])), "sum".into()]).collect()
 }
 
-/// Lines about witnesses that were made before: each asked for a key, merged with another, cut into parts; some of them damaged.
-fn readings(r: &mut Random, keys: &mut Keys, seen: &[Vec<u8>]) -> Vec<String> {
+/// Lines about witnesses that were made before: each asked for a key, merged with another, exchanged, cut into parts; some of them damaged.
+fn readings(r: &mut Random, keys: &mut Keys, seen: &[Vec<u8>], room: usize) -> Vec<String> {
     let mut witness = seen[r.below(seen.len())].clone();
     match r.below(12) {
         0 => {
@@ -121,7 +122,8 @@ fn readings(r: &mut Random, keys: &mut Keys, seen: &[Vec<u8>]) -> Vec<String> {
         }
         _ => (),
     }
-    match r.below(4) {
+    match r.below(5) {
+        4 => exchanged(r, &witness, room),
         0 => {
             let other = &seen[r.below(seen.len())];
             vec![format!("merge {} {}", hex(&witness), hex(other))]
@@ -144,6 +146,32 @@ fn readings(r: &mut Random, keys: &mut Keys, seen: &[Vec<u8>]) -> Vec<String> {
         }
         _ => (0..1 + r.below(3)).map(|_| format!("ask {} {}", hex(&witness), hex(&keys.any(r)))).collect(),
     }
+}
+
+/// A witness in CBOR and back, and CBOR that is damaged, or lawful and not ours; with room, and without.
+fn exchanged(r: &mut Random, witness: &[u8], room: usize) -> Vec<String> {
+    let mut lines = vec![format!("tocbor {}", hex(witness))];
+    let Some(mut bytes) = cbor::of(witness) else { return lines };
+    lines.push(format!("fromcbor {}", hex(&bytes)));
+    match r.below(8) {
+        0 => {
+            let at = r.below(bytes.len());
+            bytes[at] ^= 1 << r.below(8);
+        }
+        1 => bytes.truncate(r.below(bytes.len() + 1)),
+        2 => bytes.push(r.below(256) as u8),
+        3 => bytes = [[0x83, 0x02, 0x40].repeat(60 + r.below(6)), bytes].concat(),
+        4 => lines.extend([
+            format!("room {}", witness.len() - 1),
+            format!("fromcbor {}", hex(&bytes)),
+            format!("room {}", bytes.len() - 1),
+            format!("tocbor {}", hex(witness)),
+            format!("room {room}"),
+        ]),
+        way => bytes = cbor::otherwise(&bytes, way, r.below(1000)),
+    }
+    lines.push(format!("fromcbor {}", hex(&bytes)));
+    lines
 }
 
 /// The bytes of a witness that a line's answer has, if they are not many.
@@ -179,7 +207,8 @@ pub fn script(seed: u64, lines: usize) -> Vec<String> {
         out.push(format!("buffer {length}"));
         out.push("count".into());
         out.push(format!("create {capacity}"));
-        out.push(format!("room {}", [131_072, 131_072, 131_072, 131_072, 131_072, 2, 34, 200, 2_000][r.below(9)]));
+        let room = [131_072, 131_072, 131_072, 131_072, 131_072, 2, 34, 200, 2_000][r.below(9)];
+        out.push(format!("room {room}"));
         let mut keys = Keys { used: vec![], letters: 2 + r.below(5), longest: [2, 3, 5, 9, 50][r.below(5)] };
         let steps = if capacity == 1024 { 2600 } else { 12 * capacity.min(90) + 30 };
         let mut grow = true;
@@ -219,8 +248,9 @@ pub fn script(seed: u64, lines: usize) -> Vec<String> {
                             if seen.len() == 6 {
                                 seen.remove(0);
                             }
+                            out.extend(exchanged(&mut r, &witness, room));
                             seen.push(witness);
-                            out.extend(readings(&mut r, &mut keys, &seen));
+                            out.extend(readings(&mut r, &mut keys, &seen, room));
                         }
                     }
                 }

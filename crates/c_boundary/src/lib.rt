@@ -19,6 +19,7 @@ ghost use Rattle.replay.specs.Runs.{ranTo};
 ghost use Rattle.answers.specs.Answers.{answered, changedOf};
 ghost use Rattle.lookup.specs.Answer.{lookupAnswer};
 ghost use Rattle.merge.specs.Answer.{mergeAnswer};
+ghost use Rattle.cbor.specs.Answer.{cborWritten, cborRead};
 ghost use Rattle.parts.specs.Machine.{ended, partNumber};
 ghost use Rattle.parts.specs.Layout.{begun, run, partsOf};
 ghost use Rattle.c_boundary.specs.Lent.{toldIs, toldTo, countedIs, countedTo, digestedIs, digestedTo, foundIs, foundTo, writtenIs, writtenTo, replayedIs, replayedTo, seenOf, askedIs, askedTo, rebuiltOf, hashedOf};
@@ -366,6 +367,20 @@ pub extern "C" fn dampcandle_merge(
     ensures { λ r. ⌜ writtenIs r (now (length .exit)) (now (out .exit)) ≡ writtenTo (now (length .entry)) (mergeAnswer (now (one .entry)) (now (other .entry)) (now (out .entry))) ⌝ }
 {
     put_length(register_map::merge(one, other, out), length)
+}
+
+#[no_mangle]
+pub extern "C" fn dampcandle_write_cbor(witness: &[u8], out: &mut [u8], length: &mut usize) -> usize
+    ensures { λ r. ⌜ writtenIs r (now (length .exit)) (now (out .exit)) ≡ writtenTo (now (length .entry)) (cborWritten (now (witness .entry)) (now (out .entry))) ⌝ }
+{
+    put_length(register_map::write_cbor(witness, out), length)
+}
+
+#[no_mangle]
+pub extern "C" fn dampcandle_read_cbor(cbor: &[u8], out: &mut [u8], length: &mut usize) -> usize
+    ensures { λ r. ⌜ writtenIs r (now (length .exit)) (now (out .exit)) ≡ writtenTo (now (length .entry)) (cborRead (now (cbor .entry)) (now (out .entry))) ⌝ }
+{
+    put_length(register_map::read_cbor(cbor, out), length)
 }
 
 // ---- rebuild in parts

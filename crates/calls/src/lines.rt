@@ -186,6 +186,8 @@ fn witness(which: Show, a: &[u8], b: &[u8], store: &[u8], output: &mut [u8]) -> 
         Show::ValueRange => register_map::value_range(store, a, b, output),
         Show::Prefix => register_map::keys_with_prefix(store, a, output),
         Show::Merge => register_map::merge(a, b, output),
+        Show::ToCbor => register_map::write_cbor(a, output),
+        Show::FromCbor => register_map::read_cbor(a, output),
     }
 }
 

@@ -39,7 +39,7 @@ pub(crate) enum Ask {
     Sum,
 }
 
-// Writes into the output: a witness of the store, or of two witnesses.
+// Writes into the output: a witness of the store, or of two witnesses, or the other form of one.
 pub(crate) enum Show {
     Full,
     Keys,
@@ -48,6 +48,8 @@ pub(crate) enum Show {
     ValueRange,
     Prefix,
     Merge,
+    ToCbor,
+    FromCbor,
 }
 
 pub(crate) enum Call {
@@ -84,7 +86,7 @@ fn alone(name: &[u8]) -> Call {
 fn with_one(name: &[u8]) -> Call {
     match place(
         name,
-        b"buffer room load create delete get next rebuild hash witness prefix part replay",
+        b"buffer room load create delete get next rebuild hash witness prefix part replay tocbor fromcbor",
     ) {
         0 => Call::Setup(Setup::Buffer),
         1 => Call::Setup(Setup::Room),
@@ -99,6 +101,8 @@ fn with_one(name: &[u8]) -> Call {
         10 => Call::Show(Show::Prefix),
         11 => Call::Feed(Feed::Part),
         12 => Call::Replay,
+        13 => Call::Show(Show::ToCbor),
+        14 => Call::Show(Show::FromCbor),
         _ => Call::Unknown,
     }
 }

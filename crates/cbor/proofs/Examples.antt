@@ -12,4 +12,4 @@ examples-hold = ((refl, refl), ((refl, refl), ((refl, refl), ((refl, refl), ((re
 
 pub faulty-refused : Each Refused faulty
 unfolding faulty parseBy cborFront sized least most
-faulty-refused = (refl, (refl, (refl, (refl, (refl, (refl, (refl, tt)))))))
+faulty-refused = (refl, (refl, (refl, (refl, (refl, (refl, (refl, (refl, tt))))))))

@@ -1,5 +1,10 @@
--- The laws of the CBOR form.
-pub mod Opens
-pub mod Exchange
-pub mod Promises
+-- The laws of the CBOR form, and the lemmas that belong to no one function.
 pub mod Examples
+pub mod Opens
+pub mod Laws
+pub mod Promises
+pub mod Reading
+pub mod Sizes
+pub mod Judging
+pub mod Records
+pub mod Answering

@@ -4,18 +4,17 @@ use mathlib.Core.Path.{_≡_, refl, sym, ap, ap₂, _∙_}
 use mathlib.Core.Bool.{Bool, true, false}
 use mathlib.Core.List.{List, [], _∷_, _++_, append-assoc}
 use native.Mathlib.Omega.{arith}
-use native.Mathlib.Nat.{not-suc-le-zero, add-sub-cancel-left}
+use native.Mathlib.Nat.{not-suc-le-zero}
 use lib.ListN.{length, take, drop, length-append, take-append-drop}
 use lib.Seq.{length-take-le, take-at, drop-at}
 use lib.Dec.{ltb, leb, eqb}
 use borrow.Author.Tests.{leb-true, ltb-true, ltb-false, eqb-true, le-leb, lt-ltb, le-ltb, eq-eqb}
 use Rattle.hash_tree.specs.Record.{least, most}
-use Rattle.hash_tree.specs.Parse.{Bytes}
 use Rattle.hash_tree.specs.Form.{Front, Taken, Shut, Fits}
 use Rattle.hash_tree.proofs.Forms.{Seen, Opening}
 use Rattle.cbor.specs.Cbor.{arrayOf, pickBytes, stringHead, own, putCbor, pickFront, sized, long, string, ownFront, cborFront, cborForm}
 
-picked : (v : Bool) (x : Front) → v ≡ true → pickFront v x Shut ≡ x
+pub picked : (v : Bool) (x : Front) → v ≡ true → pickFront v x Shut ≡ x
 picked v x e = rw e
 
 -- ---- put, and taken off

@@ -2,41 +2,24 @@
 -- not the CBOR of exactly one; then 6 where there is no room; else 0, the length, and the other form at the front of the output.
 -- A refusal has the length 0 and changes no byte.
 use Prim.Native.Nat.{ℕ}
-use mathlib.Core.Bool.{Bool, true, false}
-use mathlib.Core.List.{List, [], _∷_, _++_}
-use lib.Dec.{leb}
-use lib.ListN.{length, drop}
+use mathlib.Core.List.{List, [], _∷_}
+use Rattle.answers.specs.Numbers.{Refusal, Malformed, NotCbor, refused}
+use Rattle.answers.specs.Answers.{written}
 use Rattle.hash_tree.specs.HashTree.{HashTree}
 use Rattle.hash_tree.specs.Written.{write, maxDepth}
 use Rattle.hash_tree.specs.Parse.{Parsed, Got, Bad, parse}
 use Rattle.hash_tree.specs.Form.{parseBy}
 use Rattle.cbor.specs.Cbor.{cborForm, cbor}
+pub use Rattle.answers.specs.Answers.{Written, answered, putFront}
 
--- number, length, and the output afterwards
-pub record Answer : Type 0 where
-  pub number : ℕ
-  pub size : ℕ
-  pub out : List ℕ
+-- a tree and nothing left, put anew; else a refusal
+abbrev pub anew : Refusal → (HashTree → List ℕ) → (out : List ℕ) → Parsed → Written
+anew n form out (Got t []) = putFront out (form t)
+anew n form out (Got t (x ∷ rest)) = written out (refused n)
+anew n form out Bad = written out (refused n)
 
-abbrev pub refused : ℕ → List ℕ → Answer
-refused n out = record { number = n; size = 0; out = out }
+unfoldable pub cborWritten : (bytes out : List ℕ) → Written
+cborWritten bytes out = anew Malformed cbor out (parse maxDepth bytes)
 
-abbrev pub pickAnswer : Bool → Answer → Answer → Answer
-pickAnswer true a b = a
-pickAnswer false a b = b
-
--- at the front of the output, if there is room
-abbrev pub saved : List ℕ → List ℕ → Answer
-saved w out = pickAnswer (leb (length w) (length out)) (record { number = 0; size = length w; out = w ++ drop (length w) out }) (refused 6 out)
-
--- a tree and nothing left, written anew; else the number n
-abbrev pub anew : ℕ → (HashTree → List ℕ) → List ℕ → Parsed → Answer
-anew n form out (Got t []) = saved (form t) out
-anew n form out (Got t (x ∷ rest)) = refused n out
-anew n form out Bad = refused n out
-
-unfoldable pub cborWritten : List ℕ → List ℕ → Answer
-cborWritten bytes out = anew 9 cbor out (parse maxDepth bytes)
-
-unfoldable pub cborRead : List ℕ → List ℕ → Answer
-cborRead bytes out = anew 12 write out (parseBy cborForm maxDepth bytes)
+unfoldable pub cborRead : (bytes out : List ℕ) → Written
+cborRead bytes out = anew NotCbor write out (parseBy cborForm maxDepth bytes)

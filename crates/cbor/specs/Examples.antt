@@ -27,7 +27,8 @@ examples =
     ∷ record { tree = Fork Empty (Pruned (replicate 32 7)); bytes = 0x83 ∷ 0x01 ∷ 0x81 ∷ 0x00 ∷ 0x82 ∷ 0x04 ∷ 0x58 ∷ 32 ∷ replicate 32 7 }
     ∷ []
 
--- no record: a tag in front; an array without its length; strings of 5, 23 and 24 bytes in a head too long; an Empty of three; a digest of 31
+-- no record: a tag in front; an array without its length; strings of 5, 23 and 24 bytes in a head too long; an Empty of three; a digest of
+-- 31; a value of 65
 unfoldable pub faulty : List (List ℕ)
 faulty =
     (0xd9 ∷ 0xd9 ∷ 0xf7 ∷ 0x81 ∷ 0x00 ∷ [])
@@ -37,6 +38,7 @@ faulty =
     ∷ (0x82 ∷ 0x03 ∷ 0x59 ∷ 0x00 ∷ 0x18 ∷ replicate 24 5)
     ∷ (0x83 ∷ 0x00 ∷ [])
     ∷ (0x82 ∷ 0x04 ∷ 0x58 ∷ 31 ∷ replicate 31 7)
+    ∷ (0x82 ∷ 0x03 ∷ 0x58 ∷ 65 ∷ replicate 65 5)
     ∷ []
 
 abbrev pub Refused : List ℕ → Type 0

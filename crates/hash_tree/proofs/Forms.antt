@@ -24,23 +24,23 @@ pub record Opening (f : Form) : Type 0 where
   pub seen : (xs : List ℕ) → Bytes xs → Seen f xs (f .front xs)
 
 -- the five kinds
-empty-fits : Fits 0 []
+pub empty-fits : Fits 0 []
 unfolding least most
 empty-fits = record { kind = lit< tt; low = omega arith; high = omega arith }
 
-fork-fits : Fits 1 []
+pub fork-fits : Fits 1 []
 unfolding least most
 fork-fits = record { kind = lit< tt; low = omega arith; high = omega arith }
 
-label-fits : (b : List ℕ) → length b ≤ maxLabel → Fits 2 b
+pub label-fits : (b : List ℕ) → length b ≤ maxLabel → Fits 2 b
 unfolding least most
 label-fits b h = record { kind = lit< tt; low = omega arith; high = h }
 
-leaf-fits : (b : List ℕ) → length b ≤ maxValue → Fits 3 b
+pub leaf-fits : (b : List ℕ) → length b ≤ maxValue → Fits 3 b
 unfolding least most
 leaf-fits b h = record { kind = lit< tt; low = omega arith; high = h }
 
-pruned-fits : (b : List ℕ) → length b ≡ digestLen → Fits 4 b
+pub pruned-fits : (b : List ℕ) → length b ≡ digestLen → Fits 4 b
 unfolding least most
 pruned-fits b h = record { kind = lit< tt; low = omega arith; high = omega arith }
 

@@ -68,10 +68,10 @@ unfolding piece
 put-front k b rest h =
     rw (piece-opens k b rest (h .kind) (h .low) (h .high), take-at b rest (length b) refl, drop-at b rest (length b) refl)
 
-opening : Opening written
+pub opening : Opening written
 opening = record { back = put-front; seen = λ xs bs. by-record xs bs (recordOf xs) (view xs) }
 
-write-by : (t : HashTree) → writeBy written t ≡ write t
+pub write-by : (t : HashTree) → writeBy written t ≡ write t
 unfolding write
 write-by Empty = refl
 write-by (Fork l r) = rw (write-by l, write-by r)
@@ -83,7 +83,7 @@ grow-by : (p : List ℕ → Parsed) (xs : List ℕ) (r : Record) → growBy p (f
 grow-by p xs (Whole k n) = refl
 grow-by p xs Malformed = refl
 
-parse-by : (d : ℕ) (xs : List ℕ) → parseBy written d xs ≡ parse d xs
+pub parse-by : (d : ℕ) (xs : List ℕ) → parseBy written d xs ≡ parse d xs
 unfolding parse parseBy
 parse-by zero xs = refl
 parse-by (suc d) xs =

@@ -66,13 +66,14 @@ pub enum Record {
     Malformed,
 }
 
-fn least_len(kind: usize) -> usize
+// The least and the greatest number of bytes that a record of a kind has.
+pub fn least_len(kind: usize) -> usize
     ensures { λ r. ⌜ r ≡ least kind ⌝ }
 {
     if kind == PRUNED { DIGEST_LEN } else { 0 }
 }
 
-fn most_len(kind: usize) -> usize
+pub fn most_len(kind: usize) -> usize
     ensures { λ r. ⌜ r ≡ most kind ⌝ }
 {
     if kind == LABELED {
@@ -86,14 +87,14 @@ fn most_len(kind: usize) -> usize
     }
 }
 
-fn wide(b: u8) -> usize
+pub fn wide(b: u8) -> usize
     ensures { λ r. ⌜ (r ≡ b) × (r < 256) ⌝ }
 {
     b as usize
 }
 
 // How many bytes stand from a place on; none past the end.
-fn left_at(s: &[u8], at: usize) -> usize
+pub fn left_at(s: &[u8], at: usize) -> usize
     ensures { λ r. ⌜ r ≡ length (now (s .entry)) - at ⌝ }
 {
     if at < s.len() { s.len() - at } else { 0 }

@@ -30,6 +30,7 @@ ghost use Rattle.answers.specs.Answers.{noEntry, unwritten, answered, changedOf
 ghost use Rattle.search.specs.Search.{answerOf};
 ghost use Rattle.lookup.specs.Answer.{lookupAnswer};
 ghost use Rattle.merge.specs.Answer.{mergeAnswer};
+ghost use Rattle.cbor.specs.Answer.{cborWritten, cborRead};
 ghost use Rattle.parts.specs.Machine.{ended, partNumber};
 ghost use Rattle.parts.specs.Layout.{begun, run, partsOf};
 ghost use Rattle.replay.specs.Runs.{ranTo};
@@ -334,6 +335,19 @@ pub fn merge(one: &[u8], other: &[u8], out: &mut [u8]) -> Saved
     ensures { λ r. ⌜ answered r (now (out .exit)) ≡ mergeAnswer (now (one .entry)) (now (other .entry)) (now (out .entry)) ⌝ }
 {
     merge::merge(one, other, out)
+}
+
+// A witness in CBOR, as the Interface Specification writes hash trees, at the front of the output; and back.
+pub fn write_cbor(witness: &[u8], out: &mut [u8]) -> Saved
+    ensures { λ r. ⌜ answered r (now (out .exit)) ≡ cborWritten (now (witness .entry)) (now (out .entry)) ⌝ }
+{
+    cbor::write_cbor(witness, out)
+}
+
+pub fn read_cbor(cbor: &[u8], out: &mut [u8]) -> Saved
+    ensures { λ r. ⌜ answered r (now (out .exit)) ≡ cborRead (now (cbor .entry)) (now (out .entry)) ⌝ }
+{
+    cbor::read_cbor(cbor, out)
 }
 
 // ---- rebuild in parts: a state of plain bytes, which means nothing before it is begun

@@ -3,6 +3,7 @@ use crate::build::build;
 use crate::replays::replay;
 use crate::stores;
 use crate::witnesses;
+use regmap_check::exchange::exchange_file;
 use regmap_check::inspect;
 use regmap_check::merge_files;
 use regmap_log::show;
@@ -28,6 +29,7 @@ pub(crate) fn command(line: &[u8], err: i32) -> usize {
         3..=5 => stores::change(kind, line, err),
         6..=9 => witnesses::cut(kind, line, err),
         kinds::MERGE => merge_files(line, err),
+        kinds::CBOR | kinds::UNCBOR => exchange_file(kind, line, err),
         kinds::BUILD => build(line, err),
         kinds::REPLAY => replay(line, err),
         kinds::LOG => show(line, err),

@@ -1,4 +1,5 @@
-// Commands that check, show, ask and merge witnesses: they need no store.
+// Commands that check, show, ask, merge and exchange witnesses: they need no store.
+pub mod exchange;
 mod stream;
 
 use crate::stream::check_stream;
@@ -41,13 +42,19 @@ use text::words::word;
 // ---- checking
 
 // A file that is refused for its bytes: what it is, where the first bytes tell.
-fn no_witness(path: &[u8], bytes: &[u8], err: i32) -> usize {
+pub(crate) fn no_witness(path: &[u8], bytes: &[u8], err: i32) -> usize {
     match kind_of(bytes) {
         Holds::Store => say3(
             err,
             b"regmap: ",
             path,
             b" is a store and no witness: use list, get or root.\n",
+        ),
+        Holds::Cbor => say3(
+            err,
+            b"regmap: ",
+            path,
+            b": refused (9) this is CBOR, as the certificate tools have it: use uncbor first.\n",
         ),
         Holds::Other => say3(
             err,

@@ -104,10 +104,11 @@ pub enum Holds {
     Nothing,
     Store,
     Witness,
+    Cbor,
     Other,
 }
 
-// A store's edition is 1, in four bits; a witness opens with a record.
+// A store's edition is 1, in four bits; a witness opens with a record, and its CBOR with an array and a kind.
 fn holds_pair(a: u8, b: u8) -> Holds {
     match a {
         0x10..=0x1f => Holds::Store,
@@ -131,6 +132,19 @@ fn holds_pair(a: u8, b: u8) -> Holds {
                 Holds::Witness
             } else {
                 Holds::Other
+            }
+        }
+        0x81 => { if b == 0 { Holds::Cbor } else { Holds::Other } }
+        0x82 => {
+            match b {
+                3 | 4 => Holds::Cbor,
+                _ => Holds::Other,
+            }
+        }
+        0x83 => {
+            match b {
+                1 | 2 => Holds::Cbor,
+                _ => Holds::Other,
             }
         }
         _ => Holds::Other,
@@ -260,22 +274,36 @@ fn is_file(fd: i32) -> bool {
     libc::ftruncate(fd, size) == 0
 }
 
-fn is_kind(kind: Holds, store: bool) -> bool {
+// What a file of a kind is called.
+fn called(kind: Holds, to: i32) {
     match kind {
-        Holds::Nothing => true,
-        Holds::Store => store,
-        Holds::Witness => !store,
-        Holds::Other => false,
+        Holds::Store => say(to, b"store"),
+        Holds::Cbor => say(to, b"CBOR"),
+        _ => say(to, b"witness"),
     }
 }
 
-fn kept(path: &[u8], store: bool, err: i32) -> bool {
-    say3(err, b"regmap: ", path, b" is there, and is no ");
-    if store {
-        say(err, b"store");
-    } else {
-        say(err, b"witness");
+fn number(kind: Holds) -> usize {
+    match kind {
+        Holds::Nothing => 0,
+        Holds::Store => 1,
+        Holds::Witness => 2,
+        Holds::Cbor => 3,
+        Holds::Other => 4,
     }
+}
+
+fn is_kind(kind: Holds, wanted: Holds) -> bool {
+    let n = number(kind);
+    if n == 0 {
+        return true;
+    }
+    n == number(wanted)
+}
+
+fn kept(path: &[u8], wanted: Holds, err: i32) -> bool {
+    say3(err, b"regmap: ", path, b" is there, and is no ");
+    called(wanted, err);
     say(
         err,
         b": it is not written over. Choose another name, or remove it.\n",
@@ -285,7 +313,7 @@ fn kept(path: &[u8], store: bool, err: i32) -> bool {
 
 // Whether what stands under a name may be replaced: nothing is there, or a regular file that is empty or holds the same kind of bytes. So
 // no input is ever written over, under whatever name.
-fn may_replace(path: &[u8], store: bool, err: i32) -> bool {
+fn may_replace(path: &[u8], wanted: Holds, err: i32) -> bool {
     let fd = os::open_update(path);
     if fd < 0 {
         if os::errno() == libc::ENOENT {
@@ -295,16 +323,16 @@ fn may_replace(path: &[u8], store: bool, err: i32) -> bool {
         return false;
     }
     let kind = head(fd);
-    if !is_kind(kind, store) {
+    if !is_kind(kind, wanted) {
         closed(fd);
-        return kept(path, store, err);
+        return kept(path, wanted, err);
     }
     let file = is_file(fd);
     closed(fd);
     if file {
         return true;
     }
-    kept(path, store, err)
+    kept(path, wanted, err)
 }
 
 // What stands there is no file of ours, whatever it looks like.
@@ -323,8 +351,8 @@ fn sent(bytes: &[u8], err: i32) -> bool {
     false
 }
 
-// Writes a store or a witness; no, where that can't be, and it was said.
-pub fn save(path: &[u8], bytes: &[u8], store: bool, err: i32) -> bool {
+// Writes a file of this kind; no, where that can't be, and it was said.
+pub fn save_as(path: &[u8], bytes: &[u8], kind: Holds, err: i32) -> bool {
     if is(path, b"-") {
         return sent(bytes, err);
     }
@@ -337,7 +365,7 @@ pub fn save(path: &[u8], bytes: &[u8], store: bool, err: i32) -> bool {
         );
         return false;
     }
-    if !may_replace(path, store, err) {
+    if !may_replace(path, kind, err) {
         return false;
     }
     let fd = lock(path, err);
@@ -345,6 +373,12 @@ pub fn save(path: &[u8], bytes: &[u8], store: bool, err: i32) -> bool {
         return false;
     }
     finish(fd, path, bytes, err)
+}
+
+// A store or a witness.
+pub fn save(path: &[u8], bytes: &[u8], store: bool, err: i32) -> bool {
+    let kind = if store { Holds::Store } else { Holds::Witness };
+    save_as(path, bytes, kind, err)
 }
 
 // ---- what was printed

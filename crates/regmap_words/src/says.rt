@@ -21,7 +21,7 @@ pub fn version() {
     say(OUT, &VERSION);
 }
 
-const USAGE: [u8; 2014] =
+const USAGE: [u8; 2138] =
     *b"regmap: a map of registers as a store with a root digest, and witnesses of it
 
                regmap ..                       for example, regmap ..
@@ -39,6 +39,8 @@ const USAGE: [u8; 2014] =
                prefix STORE OUT PREFIX         prefix u.store w 00
                full STORE OUT                  full u.store w
                merge ONE OTHER OUT             merge w v both
+               cbor WITNESS OUT                cbor w w.cbor
+               uncbor CBOR OUT                 uncbor w.cbor w
   is it right? check WITNESS DIGEST [--json]   check w $(regmap root u.store)
                check -c FILE                   check -c digests
                ask WITNESS DIGEST NAME         ask w $(regmap root u.store) 010

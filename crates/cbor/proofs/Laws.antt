@@ -4,9 +4,9 @@ use mathlib.Core.Path.{_≡_}
 use mathlib.Core.List.{List, _++_}
 use Rattle.hash_tree.specs.HashTree.{HashTree}
 use Rattle.hash_tree.specs.Written.{Lengths, Lawful}
-use Rattle.hash_tree.specs.Parse.{Parsed, Got, Bad, Bytes}
+use Rattle.hash_tree.specs.Parse.{Got, Bytes}
 use Rattle.hash_tree.specs.Form.{parseBy}
-use Rattle.hash_tree.proofs.Forms.{ReadBy, written-parsed, parsed-written, prefix-free-by, unique-by}
+use Rattle.hash_tree.proofs.Forms.{written-parsed, parsed-written, prefix-free-by, unique-by}
 use Rattle.cbor.specs.Cbor.{cborForm, cbor}
 use Rattle.cbor.proofs.Opens.{opening}
 
