@@ -1,2 +1,3 @@
--- The starred examples of document 01 hold.
+-- The examples hold.
 pub mod Table
+pub mod Difference

@@ -1,2 +1,3 @@
--- The starred examples of document 01.
+-- The starred examples of document 01, and the difference of two releases.
 pub mod Examples
+pub mod Difference

@@ -5,8 +5,9 @@ use mathlib.Core.Bool.{Bool, true, false, cond}
 use mathlib.Core.Logic.{inl, inr}
 use mathlib.Core.Option.{Option, none, some}
 use mathlib.Core.List.{List, [], _∷_}
-use Prim.Native.Nat.{ℕ}
+use Prim.Native.Nat.{ℕ, suc, _+_, _≤_}
 use native.Mathlib.Omega.{arith}
+use lib.ListN.{length}
 use Rattle.key_order.specs.declared.Ordering.{Ordering}
 use Rattle.key_order.specs.declared.Ordering.the-variants.{Less, Equal, Greater}
 use Rattle.key_order.specs.Order.{Key, cmp, pick, isSame}
@@ -14,7 +15,7 @@ use Rattle.key_order.proofs.Laws.{cmp-refl, cmp-eq, cmp-trans, gt-lt, lt-gt, lt
 use Rattle.llrb.specs.Tree.{EntryOf}
 use Rattle.llrb.specs.Sorted.{Above, Sorted}
 use Rattle.llrb.specs.Map.{PairOf, Pair, pairs, find}
-use Rattle.llrb.specs.Difference.{Change, Gone, New, Other, Line, line, changed, added, withBoth, against, difference, Over, Rising, In, Difference}
+use Rattle.llrb.specs.Difference.{Change, Gone, New, Other, Line, line, changed, added, withBoth, against, difference, EachKey, Over, Rising, In, Difference}
 use Rattle.llrb.proofs.Lists.{arms, arms₂}
 
 -- ---- maps in order
@@ -204,37 +205,41 @@ unfolding difference find
 difference-find k [] new a b = added-find k new
 difference-find k (p ∷ old) new a b = against-find k p old (a .0) (λ L. difference old L) (λ N r. difference-find k old N (a .1) r) new b
 
--- ---- its keys rise
+-- ---- its keys are keys of the two maps, and rise
 
-over-added : (j : Key) (new : List Pair) → Over j new → Over j (added new)
-unfolding added
-over-added j [] a = tt
-over-added j (q ∷ new) a = (a .0, over-added j new (a .1))
+module _ (P : Key → Type 0) where
+  each-added : (new : List Pair) → EachKey P new → EachKey P (added new)
+  unfolding added
+  each-added [] a = tt
+  each-added (q ∷ new) a = (a .0, each-added new (a .1))
+
+  each-both : (p q : Pair) (L : List Line) → P (p .key) → EachKey P L → EachKey P (withBoth p q L)
+  each-both p q L h a = at (isSame (p .value) (q .value))
+    where
+      at : (b : Bool) → EachKey P (cond b L (line Other (p .key) ∷ L))
+      at true = a
+      at false = (h, a)
+
+  each-against : (p : Pair) (rest : List Pair → List Line) → P (p .key) → ((N : List Pair) → EachKey P N → EachKey P (rest N))
+      → (new : List Pair) → EachKey P new → EachKey P (against p rest new)
+  unfolding against
+  each-against p rest h ih [] a = (h, ih [] tt)
+  each-against p rest h ih (q ∷ new) a =
+      let i = each-against p rest h ih new (a .1) in
+      arms (EachKey P) (cmp (p .key) (q .key)) (λ w. (h, ih (q ∷ new) a)) (λ w. each-both p q (rest new) h (ih new (a .1))) (λ w. (a .0, i))
+
+  pub difference-each : (old new : List Pair) → EachKey P old → EachKey P new → EachKey P (difference old new)
+  unfolding difference
+  difference-each [] new a b = each-added new b
+  difference-each (p ∷ old) new a b = each-against p (λ L. difference old L) (a .0) (λ N n. difference-each old N (a .1) n) new b
+
+abbrev above : Key → Key → Type 0
+above j k = cmp j k ≡ Less
 
 rising-added : (new : List Pair) → Rising new → Rising (added new)
 unfolding added
 rising-added [] a = tt
-rising-added (q ∷ new) a = (over-added (q .key) new (a .0), rising-added new (a .1))
-
-over-both : (j : Key) (p q : Pair) (L : List Line) → cmp j (p .key) ≡ Less → Over j L → Over j (withBoth p q L)
-over-both j p q L h a = at (isSame (p .value) (q .value))
-  where
-    at : (b : Bool) → Over j (cond b L (line Other (p .key) ∷ L))
-    at true = a
-    at false = (h, a)
-
-over-against : (j : Key) (p : Pair) (rest : List Pair → List Line) → cmp j (p .key) ≡ Less → ((N : List Pair) → Over j N → Over j (rest N))
-    → (new : List Pair) → Over j new → Over j (against p rest new)
-unfolding against
-over-against j p rest h ih [] a = (h, ih [] tt)
-over-against j p rest h ih (q ∷ new) a =
-    let i = over-against j p rest h ih new (a .1) in
-    arms (Over j) (cmp (p .key) (q .key)) (λ w. (h, ih (q ∷ new) a)) (λ w. over-both j p q (rest new) h (ih new (a .1))) (λ w. (a .0, i))
-
-over-difference : (j : Key) (old new : List Pair) → Over j old → Over j new → Over j (difference old new)
-unfolding difference
-over-difference j [] new a b = over-added j new b
-over-difference j (p ∷ old) new a b = over-against j p (λ L. difference old L) (a .0) (λ N n. over-difference j old N (a .1) n) new b
+rising-added (q ∷ new) a = (each-added (above (q .key)) new (a .0), rising-added new (a .1))
 
 rising-both : (p q : Pair) (L : List Line) → Over (p .key) L → Rising L → Rising (withBoth p q L)
 rising-both p q L o a = at (isSame (p .value) (q .value))
@@ -244,24 +249,54 @@ rising-both p q L o a = at (isSame (p .value) (q .value))
     at false = (o, a)
 
 module _ (p : Pair) (old : List Pair) (o : Over (p .key) old) (rest : List Pair → List Line)
-    (above : (j : Key) (N : List Pair) → Over j old → Over j N → Over j (rest N)) (ih : (N : List Pair) → Rising N → Rising (rest N)) where
+    (over : (j : Key) (N : List Pair) → Over j old → Over j N → Over j (rest N)) (ih : (N : List Pair) → Rising N → Rising (rest N)) where
   rising-against : (new : List Pair) → Rising new → Rising (against p rest new)
   unfolding against
-  rising-against [] a = (above (p .key) [] o tt, ih [] tt)
+  rising-against [] a = (over (p .key) [] o tt, ih [] tt)
   rising-against (q ∷ new) a =
       let i = rising-against new (a .1) in
       arms Rising (cmp (p .key) (q .key))
-      (λ w. (above (p .key) (q ∷ new) o (w, over-trans (p .key) (q .key) new w (a .0)), ih (q ∷ new) a))
-      (λ w. rising-both p q (rest new) (above (p .key) new o (rw (cmp-eq (p .key) (q .key) w) (a .0))) (ih new (a .1)))
+      (λ w. (over (p .key) (q ∷ new) o (w, over-trans (p .key) (q .key) new w (a .0)), ih (q ∷ new) a))
+      (λ w. rising-both p q (rest new) (over (p .key) new o (rw (cmp-eq (p .key) (q .key) w) (a .0))) (ih new (a .1)))
       (λ w.
       let l = gt-lt (p .key) (q .key) w in
-      (over-against (q .key) p rest l (λ N n. above (q .key) N (over-trans (q .key) (p .key) old l o) n) new (a .0), i))
+      (each-against (above (q .key)) p rest l (λ N n. over (q .key) N (over-trans (q .key) (p .key) old l o) n) new (a .0), i))
 
 pub difference-rising : (old new : List Pair) → Rising old → Rising new → Rising (difference old new)
 unfolding difference
 difference-rising [] new a b = rising-added new b
 difference-rising (p ∷ old) new a b =
-    rising-against p old (a .0) (λ L. difference old L) (λ j N x y. over-difference j old N x y) (λ N n. difference-rising old N (a .1) n) new b
+    rising-against p old (a .0) (λ L. difference old L) (λ j N x y. difference-each (above j) old N x y) (λ N n. difference-rising old N (a .1) n) new b
+
+-- ---- at most a line for each entry
+
+both-length : (p q : Pair) (L : List Line) → length (withBoth p q L) ≤ suc (length L)
+both-length p q L = at (isSame (p .value) (q .value))
+  where
+    at : (b : Bool) → length (cond b L (line Other (p .key) ∷ L)) ≤ suc (length L)
+    at true = omega arith
+    at false = omega arith
+
+added-length : (new : List Pair) → length (added new) ≡ length new
+unfolding added
+added-length [] = refl
+added-length (q ∷ new) = ap suc (added-length new)
+
+against-length : (p : Pair) (n : ℕ) (rest : List Pair → List Line) → ((N : List Pair) → length (rest N) ≤ n + length N) → (new : List Pair)
+    → length (against p rest new) ≤ suc n + length new
+unfolding against
+against-length p n rest ih [] = omega (arith, ih [])
+against-length p n rest ih (q ∷ new) =
+    let i = against-length p n rest ih new in
+    let x : suc (length (rest (q ∷ new))) ≤ suc n + suc (length new) = omega (arith, ih (q ∷ new)) in
+    let y : length (withBoth p q (rest new)) ≤ suc n + suc (length new) = omega (arith, both-length p q (rest new), ih new) in
+    let z : suc (length (against p rest new)) ≤ suc n + suc (length new) = omega arith in
+    arms (λ (L : List Line). length L ≤ suc n + suc (length new)) (cmp (p .key) (q .key)) (λ w. x) (λ w. y) (λ w. z)
+
+pub difference-length : (old new : List Pair) → length (difference old new) ≤ length old + length new
+unfolding difference
+difference-length [] new = omega (arith, added-length new)
+difference-length (p ∷ old) new = against-length p (length old) (λ L. difference old L) (λ N. difference-length old N) new
 
 -- ---- THE RESULTS
 

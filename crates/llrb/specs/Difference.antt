@@ -58,10 +58,14 @@ difference (p ∷ old) new = against p (λ L. difference old L) new
 -- ---- what is promised of it
 
 module _ {Val : Type 0} where
+  -- P of every key
+  abbrev pub EachKey : (Key → Type 0) → List (PairOf Val) → Type 0
+  EachKey P [] = Unit {0}
+  EachKey P (p ∷ L) = P (p .key) × EachKey P L
+
   -- every key is above k
   abbrev pub Over : Key → List (PairOf Val) → Type 0
-  Over k [] = Unit {0}
-  Over k (p ∷ L) = (cmp k (p .key) ≡ Less) × Over k L
+  Over k = EachKey (λ (j : Key). cmp k j ≡ Less)
 
   -- the keys rise strictly: in key order, each once
   abbrev pub Rising : List (PairOf Val) → Type 0

@@ -24,6 +24,8 @@ use Rattle.store.specs.Decode.{decode}
 use Rattle.store.specs.Decide.{represents?, onSound}
 use Rattle.store.specs.Answers.{told, counted, digested, found, changed, written, fitting}
 use Rattle.store.specs.Calls.{refuse, longKey, longValue, crossedRange, isNone, absent, noFreeSlot, entryOr, getIn, firstIn as firstEntryIn, nextIn, insertIn, modifyIn, deleteIn, ofKey, ofRange, witnessed, createAnswer, isEmptyAnswer, countAnswer, rootHashAnswer, getAnswer, firstEntryAnswer, nextEntryAnswer, insertAnswer, modifyAnswer, deleteAnswer, asHashTreeAnswer, keysAnswer, witnessAnswer, keysWithPrefixAnswer, keyRangeAnswer, valueRangeAnswer}
+use Rattle.llrb.specs.Difference.{difference}
+use Rattle.store.specs.Difference.{mapIn, linesBytes, differenceAnswer}
 use Rattle.store.specs.Table.{Row, when, applies, firstIn, notSound, shorter, malformed, Table}
 use Rattle.store.proofs.Refusing.{hashedIf}
 use Rattle.store.proofs.Decoding.{on-sound, on-unsound, sound-decodes}
@@ -91,6 +93,43 @@ range-number out true b t = refl
 range-number out false true t = refl
 range-number out false false t = room-number out t
 
+-- 1 of either store comes before 6
+difference-number : (old new out : List ℕ)
+    → differenceAnswer old new out .number
+    ≡ firstIn (notSound old ∷ notSound new ∷ when NoRoom (ltb (length out) (length (linesBytes (difference (mapIn (decode old)) (mapIn (decode new)))))) ∷ [])
+unfolding differenceAnswer
+difference-number old new out = at (represents? old (decode old)) (represents? new (decode new))
+  where
+    lines : List ℕ
+    lines = linesBytes (difference (mapIn (decode old)) (mapIn (decode new)))
+
+    room : (b : Bool) → written out (cond b (refused NoRoom) (done lines)) .number ≡ firstIn (when NoRoom b ∷ [])
+    room true = refl
+    room false = refl
+
+    at : Dec (Represents old (decode old)) → Dec (Represents new (decode new))
+        → differenceAnswer old new out .number ≡ firstIn (notSound old ∷ notSound new ∷ when NoRoom (ltb (length out) (length lines)) ∷ [])
+    at (no x) z =
+        rw (
+          on-unsound {s = old} (λ h. x (sound-decodes h)) (λ m. onSound new (λ n. done (linesBytes (difference (mapIn m) (mapIn n)))) (refused NotSound)) (refused NotSound),
+          on-unsound {s = old} (λ h. x (sound-decodes h)) (λ m. false) true,
+        )
+    at (yes a) (no y) =
+        rw (
+          on-sound a (λ m. onSound new (λ n. done (linesBytes (difference (mapIn m) (mapIn n)))) (refused NotSound)) (refused NotSound),
+          on-sound a (λ m. false) true,
+          on-unsound {s = new} (λ h. y (sound-decodes h)) (λ n. done (linesBytes (difference (mapIn (decode old)) (mapIn n)))) (refused NotSound),
+          on-unsound {s = new} (λ h. y (sound-decodes h)) (λ m. false) true,
+        )
+    at (yes a) (yes b) =
+        rw (
+          on-sound a (λ m. onSound new (λ n. done (linesBytes (difference (mapIn m) (mapIn n)))) (refused NotSound)) (refused NotSound),
+          on-sound a (λ m. false) true,
+          on-sound b (λ n. done (linesBytes (difference (mapIn (decode old)) (mapIn n)))) (refused NotSound),
+          on-sound b (λ m. false) true,
+        )
+        (room (ltb (length out) (length lines)))
+
 create-number : (s : List ℕ) (b : Bool) (n : Model) → changed s (refuse b BadCapacity (done n)) .number ≡ cond b (numberOf BadCapacity) 0
 create-number s true n = refl
 create-number s false n = refl
@@ -153,6 +192,7 @@ table s =
           by-soundness s (ofRange valueRange first last) (numberIn out)
           (when LongKey (longKey first || longKey last) ∷ when Reversed (crossedRange first last (m .tree)) ∷ shorter out (valueRange first last (m .tree)) ∷ []) refl refl
           (range-number out (longKey first || longKey last) (crossedRange first last (m .tree)) (valueRange first last (m .tree)));
+      difference = difference-number s;
       create = λ capacity.
           create-number s (eqb capacity 0 || (ltb 1024 capacity || not (eqb (length s) (storeLength capacity)))) (fresh capacity);
       rebuild = λ w. rebuild-number (parse maxDepth w);

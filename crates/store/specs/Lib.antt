@@ -12,8 +12,9 @@ pub mod Counting
 pub mod Decide
 pub mod Answers
 pub mod Calls
-pub mod Table
 pub mod History
+pub mod Difference
+pub mod Table
 pub mod Demand
 pub mod Longest
 pub mod Viewed
