@@ -118,6 +118,34 @@ module _ {Val : Type 0} where
           inl (λ i. record { key = f i; value = g i })
       at Greater w e ih = inr (ih e)
 
+-- ---- the walk, a step at a time
+
+module _ (p : Pair) (old : List Pair) where
+  pub gone-last : difference (p ∷ old) [] ≡ line Gone (p .key) ∷ difference old []
+  unfolding difference against
+  gone-last = refl
+
+  module _ (q : Pair) (new : List Pair) where
+    pub gone-first : cmp (p .key) (q .key) ≡ Less → difference (p ∷ old) (q ∷ new) ≡ line Gone (p .key) ∷ difference old (q ∷ new)
+    unfolding difference against
+    gone-first h = rw h
+
+    pub both-first : cmp (p .key) (q .key) ≡ Equal → difference (p ∷ old) (q ∷ new) ≡ withBoth p q (difference old new)
+    unfolding difference against
+    both-first h = rw h
+
+    pub new-first : cmp (p .key) (q .key) ≡ Greater → difference (p ∷ old) (q ∷ new) ≡ line New (q .key) ∷ difference (p ∷ old) new
+    unfolding difference against
+    new-first h = rw h
+
+pub new-last : (q : Pair) (new : List Pair) → difference [] (q ∷ new) ≡ line New (q .key) ∷ difference [] new
+unfolding difference added
+new-last q new = refl
+
+pub none-last : difference [] [] ≡ []
+unfolding difference added
+none-last = refl
+
 -- ---- what is found of a key in the difference
 
 added-find : (k : Key) (new : List Pair) → find k (added new) ≡ changed none (find k new)
