@@ -46,7 +46,7 @@ enum dampcandle_number {
   DAMPCANDLE_LONG_VALUE = 3,   /* a value is longer than 64 bytes */
   DAMPCANDLE_REVERSED = 4,     /* first is above last, and two keys or more lie from last to first */
   DAMPCANDLE_FULL = 5,         /* insert of an absent key, and no slot is free */
-  DAMPCANDLE_NO_ROOM = 6,      /* the output is shorter than the witness */
+  DAMPCANDLE_NO_ROOM = 6,      /* the output is shorter than the witness or the list */
   DAMPCANDLE_ABSENT = 7,       /* get, modify, delete: no such key; first_entry, next_entry: no such entry */
   DAMPCANDLE_BAD_CAPACITY = 8, /* create: capacity 0 or above 1,024, or the length is not 8 + 150 x capacity */
   DAMPCANDLE_MALFORMED = 9,    /* rebuild: the bytes are not exactly one witness */
@@ -133,6 +133,18 @@ size_t dampcandle_value_range(const uint8_t *store, size_t store_length, const u
  * key above that does not begin with it. 0, 1, 2 or 6. */
 size_t dampcandle_keys_with_prefix(const uint8_t *store, size_t store_length, const uint8_t *prefix, size_t prefix_length, uint8_t *out,
                                    size_t out_length, size_t *length);
+
+/* ---- two stores */
+
+/* The most bytes that the list of two stores of these capacities can have: a line is a byte and a key. */
+#define DAMPCANDLE_DIFFERENCE_LENGTH(old_capacity, new_capacity) (49 * ((size_t)(old_capacity) + (size_t)(new_capacity)))
+
+/* What differs between two releases: a line for each key that is only in the old store (kind 1), only in the new one (2), or in both with
+ * another value (3), in key order, at the front of the output. A line is one byte, kind x 64 + key length, and the key. No line, length 0, means
+ * equal maps, whatever their shapes and root digests. 1 for the old store, 1 for the new one, or 6. Capacities may differ; the two stores may be
+ * the same bytes. */
+size_t dampcandle_difference(const uint8_t *old_store, size_t old_length, const uint8_t *new_store, size_t new_length, uint8_t *out,
+                             size_t out_length, size_t *length);
 
 /* ---- without a store */
 

@@ -50,12 +50,19 @@ pub(crate) enum Show {
     Merge,
 }
 
+// About the store and the other.
+pub(crate) enum Two {
+    Swap,
+    Diff,
+}
+
 pub(crate) enum Call {
     Setup(Setup),
     Change(Change),
     Ask(Ask),
     Show(Show),
     Feed(Feed),
+    Two(Two),
     Unknown,
 }
 
@@ -63,7 +70,7 @@ pub(crate) enum Call {
 fn alone(name: &[u8]) -> Call {
     match place(
         name,
-        b"first count empty root store sum full keys begin end",
+        b"first count empty root store sum full keys begin end swap diff",
     ) {
         0 => Call::Ask(Ask::First),
         1 => Call::Ask(Ask::Count),
@@ -75,6 +82,8 @@ fn alone(name: &[u8]) -> Call {
         7 => Call::Show(Show::Keys),
         8 => Call::Feed(Feed::Begin),
         9 => Call::Feed(Feed::End),
+        10 => Call::Two(Two::Swap),
+        11 => Call::Two(Two::Diff),
         _ => Call::Unknown,
     }
 }

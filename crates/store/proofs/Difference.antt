@@ -18,14 +18,14 @@ use Rattle.llrb.specs.Difference.{Change, Gone, New, Other, Line, changed, diff
 use Rattle.llrb.proofs.Difference.{sorted-rising, difference-each, difference-length, difference-is, no-line, equal-maps}
 use Rattle.store.specs.Numbers.{NotSound, NoRoom, refused, done}
 use Rattle.store.specs.Model.{Model}
-use Rattle.store.specs.Sound.{Short, Lawful, Represents}
+use Rattle.store.specs.Sound.{Short, Lawful, Represents, Sound}
 use Rattle.store.specs.Decode.{decode}
 use Rattle.store.specs.Decide.{onSound}
 use Rattle.store.specs.Answers.{Written, written}
 use Rattle.store.specs.History.{Edit, storeAfter, accepted, lastValue}
 use Rattle.store.specs.Difference.{kindOf, lineBytes, linesBytes, mapIn, differenceAnswer, ShortKeys, LastDiffer}
 use Rattle.store.specs.Demand.{Demand3}
-use Rattle.store.proofs.Decoding.{on-sound, sound-decodes, live-and-free}
+use Rattle.store.proofs.Decoding.{on-sound, on-unsound, sound-decodes, live-and-free}
 use Rattle.store.proofs.Demand.{demand-3}
 
 -- ---- the bytes
@@ -141,6 +141,21 @@ module _ {old new : List ℕ} {m n : Model} (a : Represents old m) (b : Represen
       let z : difference (mapIn m) (mapIn n) ≡ [] =
       rw (← e) (equal-maps (mapIn m) (sorted-rising (entries (m .tree)) (a .lawful .ordered))) in
       difference-of ∙ rw (z, le-ltb (length out) 0 (omega arith))
+
+-- ---- of stores that are not sound
+
+pub old-unsound : {old : List ℕ} (new out : List ℕ) → (Sound old → ⊥) → differenceAnswer old new out ≡ record { number = 1; size = 0; output = out }
+unfolding differenceAnswer
+old-unsound {old} new out n =
+    rw (on-unsound {s = old} n (λ m. onSound new (λ n. done (linesBytes (difference (mapIn m) (mapIn n)))) (refused NotSound)) (refused NotSound))
+
+pub new-unsound : {old new : List ℕ} (out : List ℕ) → Sound old → (Sound new → ⊥) → differenceAnswer old new out ≡ record { number = 1; size = 0; output = out }
+unfolding differenceAnswer
+new-unsound {old} {new} out a n =
+    rw (
+      on-sound (a .1) (λ m. onSound new (λ n. done (linesBytes (difference (mapIn m) (mapIn n)))) (refused NotSound)) (refused NotSound),
+      on-unsound {s = new} n (λ n. done (linesBytes (difference (mapIn (a .0)) (mapIn n)))) (refused NotSound),
+    )
 
 -- ---- after two histories
 

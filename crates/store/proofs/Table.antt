@@ -29,6 +29,7 @@ use Rattle.store.specs.Difference.{mapIn, linesBytes, differenceAnswer}
 use Rattle.store.specs.Table.{Row, when, applies, firstIn, notSound, shorter, malformed, Table}
 use Rattle.store.proofs.Refusing.{hashedIf}
 use Rattle.store.proofs.Decoding.{on-sound, on-unsound, sound-decodes}
+use Rattle.store.proofs.Difference.{difference-of, old-unsound, new-unsound}
 
 -- 1 comes first, and is given exactly for a store that is not sound
 by-soundness : {A : Type 0} (s : List ℕ) (o : Model → Outcome A) (number : Outcome A → ℕ) (rows : List Row) → number (refused NotSound) ≡ 1 → applies NotSound rows ≡ false
@@ -97,7 +98,6 @@ range-number out false false t = room-number out t
 difference-number : (old new out : List ℕ)
     → differenceAnswer old new out .number
     ≡ firstIn (notSound old ∷ notSound new ∷ when NoRoom (ltb (length out) (length (linesBytes (difference (mapIn (decode old)) (mapIn (decode new)))))) ∷ [])
-unfolding differenceAnswer
 difference-number old new out = at (represents? old (decode old)) (represents? new (decode new))
   where
     lines : List ℕ
@@ -109,26 +109,10 @@ difference-number old new out = at (represents? old (decode old)) (represents? n
 
     at : Dec (Represents old (decode old)) → Dec (Represents new (decode new))
         → differenceAnswer old new out .number ≡ firstIn (notSound old ∷ notSound new ∷ when NoRoom (ltb (length out) (length lines)) ∷ [])
-    at (no x) z =
-        rw (
-          on-unsound {s = old} (λ h. x (sound-decodes h)) (λ m. onSound new (λ n. done (linesBytes (difference (mapIn m) (mapIn n)))) (refused NotSound)) (refused NotSound),
-          on-unsound {s = old} (λ h. x (sound-decodes h)) (λ m. false) true,
-        )
+    at (no x) z = rw (old-unsound {old = old} new out (λ h. x (sound-decodes h)), on-unsound {s = old} (λ h. x (sound-decodes h)) (λ m. false) true)
     at (yes a) (no y) =
-        rw (
-          on-sound a (λ m. onSound new (λ n. done (linesBytes (difference (mapIn m) (mapIn n)))) (refused NotSound)) (refused NotSound),
-          on-sound a (λ m. false) true,
-          on-unsound {s = new} (λ h. y (sound-decodes h)) (λ n. done (linesBytes (difference (mapIn (decode old)) (mapIn n)))) (refused NotSound),
-          on-unsound {s = new} (λ h. y (sound-decodes h)) (λ m. false) true,
-        )
-    at (yes a) (yes b) =
-        rw (
-          on-sound a (λ m. onSound new (λ n. done (linesBytes (difference (mapIn m) (mapIn n)))) (refused NotSound)) (refused NotSound),
-          on-sound a (λ m. false) true,
-          on-sound b (λ n. done (linesBytes (difference (mapIn (decode old)) (mapIn n)))) (refused NotSound),
-          on-sound b (λ m. false) true,
-        )
-        (room (ltb (length out) (length lines)))
+        rw (new-unsound {old = old} {new = new} out (decode old, a) (λ h. y (sound-decodes h)), on-sound a (λ m. false) true, on-unsound {s = new} (λ h. y (sound-decodes h)) (λ m. false) true)
+    at (yes a) (yes b) = rw (difference-of a b out, on-sound a (λ m. false) true, on-sound b (λ m. false) true) (room (ltb (length out) (length lines)))
 
 create-number : (s : List ℕ) (b : Bool) (n : Model) → changed s (refuse b BadCapacity (done n)) .number ≡ cond b (numberOf BadCapacity) 0
 create-number s true n = refl
