@@ -18,14 +18,16 @@ fn numbers(call: &str) -> &'static [usize] {
         "rebuild" | "part" | "end" => &[0, 9],
         "ask" => &[0, 2, 9, 11],
         "merge" => &[0, 6, 9, 15],
+        "diff" => &[0, 1, 6],
         "hash" => &[0, 10],
         _ => &[],
     }
 }
 
-const CALLS: [&str; 22] = [
+const CALLS: [&str; 23] = [
     "create", "insert", "modify", "delete", "get", "first", "next", "count", "empty", "root", "full", "keys", "witness", "krange", "vrange",
     "prefix", "rebuild", "hash", "ask", "merge", "part", "end",
+    "diff",
 ];
 
 /// What stands after the number of a refused call.
@@ -36,7 +38,7 @@ fn refused(call: &str) -> String {
         "empty" => " no".into(),
         "ask" => " refused 0 0".into(),
         "root" | "rebuild" | "hash" | "end" => format!(" {}", "00".repeat(32)),
-        "full" | "keys" | "witness" | "krange" | "vrange" | "prefix" | "merge" => " 0 - 0".into(),
+        "full" | "keys" | "witness" | "krange" | "vrange" | "prefix" | "merge" | "diff" => " 0 - 0".into(),
         _ => String::new(),
     }
 }
@@ -108,7 +110,7 @@ impl Held {
                     sum = answer.clone();
                     refused = false;
                 }
-                "load" | "buffer" | "poke" | "room" | "begin" | "store" => refused = false,
+                "load" | "buffer" | "poke" | "room" | "begin" | "swap" | "store" => refused = false,
                 _ => refused = self.call(name, &text, answer).is_some_and(|n| n != 0),
             }
         }

@@ -1,7 +1,8 @@
 //! Random scripts for `calls`: histories on stores of many capacities, with keys that share fronts, lie side by side or are
-//! extreme, refused calls among them, every witness call at present, absent and extreme bounds, and damaged stores; and the witnesses
-//! that come out asked, merged and rebuilt in parts, as they are and damaged.
+//! extreme, refused calls among them, every witness call at present, absent and extreme bounds, and damaged stores; the witnesses
+//! that come out asked, merged and rebuilt in parts, as they are and damaged; and each store beside one that holds nearly the same.
 use crate::calls::{hex, unhex, Calls};
+use crate::releases::releases;
 
 pub struct Random(u64);
 
@@ -77,7 +78,7 @@ impl Keys {
 
 fn query(r: &mut Random, keys: &mut Keys) -> String {
     let a = keys.any(r);
-    match r.below(14) {
+    match r.below(15) {
         0 => "first".into(),
         1 => format!("next {}", hex(&a)),
         2 => "count".into(),
@@ -92,6 +93,7 @@ fn query(r: &mut Random, keys: &mut Keys) -> String {
             format!("{} {} {}", ["krange", "vrange"][r.below(2)], hex(&a), hex(&b))
         }
         12 => format!("prefix {}", hex(&a[..r.below(a.len() + 1)])),
+        13 => "diff".into(),
         _ => format!("get {}", hex(&a)),
     }
 }
@@ -170,7 +172,8 @@ pub fn script(seed: u64, lines: usize) -> Vec<String> {
         out.push(format!("buffer {length}"));
         out.push("count".into());
         out.push(format!("create {capacity}"));
-        out.push(format!("room {}", [131_072, 131_072, 131_072, 131_072, 131_072, 2, 34, 200, 2_000][r.below(9)]));
+        let room = [131_072, 131_072, 131_072, 131_072, 131_072, 2, 34, 200, 2_000][r.below(9)];
+        out.push(format!("room {room}"));
         let mut keys = Keys { used: vec![], letters: 2 + r.below(5), longest: [2, 3, 5, 9, 50][r.below(5)] };
         let steps = if capacity == 1024 { 2600 } else { 12 * capacity.min(90) + 30 };
         let mut grow = true;
@@ -215,6 +218,12 @@ pub fn script(seed: u64, lines: usize) -> Vec<String> {
             }
         }
         out.push("root".into());
+        for line in &out[told..] {
+            made.answer(line.as_bytes());
+        }
+        told = out.len();
+        let map = made.pairs();
+        out.extend(releases(&mut r, &map, room));
         for _ in 0..r.below(6) {
             out.push(format!("poke {} {}", r.below(length), hex(&[r.below(256) as u8])));
             for _ in 0..3 {
@@ -222,6 +231,11 @@ pub fn script(seed: u64, lines: usize) -> Vec<String> {
             }
             out.push("insert 61 62".into());
             out.push("sum".into());
+            if r.chance(3) {
+                out.push("diff".into());
+                out.push("swap".into());
+                out.push("diff".into());
+            }
         }
     }
     out.truncate(lines);

@@ -10,12 +10,12 @@ use native.Mathlib.Omega.{arith}
 use lib.ListN.{length}
 use Rattle.key_order.specs.declared.Ordering.{Ordering}
 use Rattle.key_order.specs.declared.Ordering.the-variants.{Less, Equal, Greater}
-use Rattle.key_order.specs.Order.{Key, cmp, pick, isSame}
+use Rattle.key_order.specs.Order.{Key, cmp, pick}
 use Rattle.key_order.proofs.Laws.{cmp-refl, cmp-eq, cmp-trans, gt-lt, lt-gt, lt≢eq, gt≢eq, same-refl, same-eq}
 use Rattle.llrb.specs.Tree.{EntryOf}
 use Rattle.llrb.specs.Sorted.{Above, Sorted}
 use Rattle.llrb.specs.Map.{PairOf, Pair, pairs, find}
-use Rattle.llrb.specs.Difference.{Change, Gone, New, Other, Line, line, changed, added, withBoth, against, difference, EachKey, Over, Rising, In, Difference}
+use Rattle.llrb.specs.Difference.{Change, Gone, New, Other, Line, line, sameValue, changed, added, withBoth, against, difference, EachKey, Over, Rising, In, Difference}
 use Rattle.llrb.proofs.Lists.{arms, arms₂}
 
 -- ---- maps in order
@@ -155,14 +155,14 @@ added-find k (q ∷ new) = let i = added-find k new in arms₂ (λ u v. u ≡ ch
 
 module _ (k : Key) (p q : Pair) (L : List Line) where
   both-here : cmp k (p .key) ≡ Equal → find k L ≡ none → find k (withBoth p q L) ≡ changed (some (p .value)) (some (q .value))
-  both-here h n = at (isSame (p .value) (q .value))
+  both-here h n = at (sameValue (p .value) (q .value))
     where
       at : (b : Bool) → find k (cond b L (line Other (p .key) ∷ L)) ≡ cond b none (some Other)
       at true = n
       at false = find-here k (line Other (p .key)) L h
 
   both-later : (cmp k (p .key) ≡ Equal → ⊥) → find k (withBoth p q L) ≡ find k L
-  both-later h = at (isSame (p .value) (q .value))
+  both-later h = at (sameValue (p .value) (q .value))
     where
       at : (b : Bool) → find k (cond b L (line Other (p .key) ∷ L)) ≡ find k L
       at true = refl
@@ -242,7 +242,7 @@ module _ (P : Key → Type 0) where
   each-added (q ∷ new) a = (a .0, each-added new (a .1))
 
   each-both : (p q : Pair) (L : List Line) → P (p .key) → EachKey P L → EachKey P (withBoth p q L)
-  each-both p q L h a = at (isSame (p .value) (q .value))
+  each-both p q L h a = at (sameValue (p .value) (q .value))
     where
       at : (b : Bool) → EachKey P (cond b L (line Other (p .key) ∷ L))
       at true = a
@@ -270,7 +270,7 @@ rising-added [] a = tt
 rising-added (q ∷ new) a = (each-added (above (q .key)) new (a .0), rising-added new (a .1))
 
 rising-both : (p q : Pair) (L : List Line) → Over (p .key) L → Rising L → Rising (withBoth p q L)
-rising-both p q L o a = at (isSame (p .value) (q .value))
+rising-both p q L o a = at (sameValue (p .value) (q .value))
   where
     at : (b : Bool) → Rising (cond b L (line Other (p .key) ∷ L))
     at true = a
@@ -299,7 +299,7 @@ difference-rising (p ∷ old) new a b =
 -- ---- at most a line for each entry
 
 both-length : (p q : Pair) (L : List Line) → length (withBoth p q L) ≤ suc (length L)
-both-length p q L = at (isSame (p .value) (q .value))
+both-length p q L = at (sameValue (p .value) (q .value))
   where
     at : (b : Bool) → length (cond b L (line Other (p .key) ∷ L)) ≤ suc (length L)
     at true = omega arith
@@ -357,9 +357,9 @@ changed-none : (x y : Option (List ℕ)) → changed x y ≡ none → x ≡ y
 changed-none none none h = refl
 changed-none (some v) none h = absurd (none≢some h refl)
 changed-none none (some w) h = absurd (none≢some h refl)
-changed-none (some v) (some w) h = at (isSame v w) refl h
+changed-none (some v) (some w) h = at (sameValue v w) refl h
   where
-    at : (b : Bool) → isSame v w ≡ b → cond b none (some Other) ≡ none → some v ≡ some w
+    at : (b : Bool) → sameValue v w ≡ b → cond b none (some Other) ≡ none → some v ≡ some w
     at true e z = ap some (same-eq v w e)
     at false e z = absurd (none≢some z refl)
 

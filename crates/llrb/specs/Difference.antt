@@ -1,7 +1,7 @@
 -- THE DIFFERENCE OF TWO MAPS (document 02, Q-3): only in the old, only in the new, or in both with another value; in key order, with no word
 -- about trees, shapes or digests.
 use mathlib.Core.Path.{_≡_}
-use mathlib.Core.Bool.{cond}
+use mathlib.Core.Bool.{Bool, cond}
 use mathlib.Core.Logic.{_⊎_}
 use mathlib.Core.Option.{Option, none, some}
 use mathlib.Core.List.{List, [], _∷_}
@@ -23,12 +23,16 @@ Line = PairOf Change
 abbrev pub line : Change → Key → Line
 line c k = record { key = k; value = c }
 
--- what the values of one key in the two maps say; another value is one of another length or with other bytes
+-- another value is one of another length or with other bytes
+abbrev pub sameValue : Value → Value → Bool
+sameValue v w = isSame v w
+
+-- what the values of one key in the two maps say
 abbrev pub changed : (old new : Option Value) → Option Change
 changed none none = none
 changed (some v) none = some Gone
 changed none (some w) = some New
-changed (some v) (some w) = cond (isSame v w) none (some Other)
+changed (some v) (some w) = cond (sameValue v w) none (some Other)
 
 -- ---- both maps walked together
 
@@ -39,7 +43,7 @@ added (q ∷ new) = line New (q .key) ∷ added new
 
 -- one key in both maps, and the lines after it
 abbrev pub withBoth : (p q : Pair) → List Line → List Line
-withBoth p q L = cond (isSame (p .value) (q .value)) L (line Other (p .key) ∷ L)
+withBoth p q L = cond (sameValue (p .value) (q .value)) L (line Other (p .key) ∷ L)
 
 -- p is the first of the old map; rest is what the others of the old map give with a new map
 unfoldable pub against : Pair → (rest : List Pair → List Line) → (new : List Pair) → List Line

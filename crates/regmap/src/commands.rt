@@ -4,6 +4,7 @@ use crate::stores;
 use crate::witnesses;
 use regmap_check::inspect;
 use regmap_check::merge_files;
+use regmap_diff::diff;
 use regmap_words::kinds;
 use regmap_words::kinds::kind_of;
 use regmap_words::says::DONE;
@@ -26,6 +27,7 @@ pub(crate) fn command(line: &[u8], err: i32) -> usize {
         3..=5 => stores::change(kind, line, err),
         6..=9 => witnesses::cut(kind, line, err),
         kinds::MERGE => merge_files(line, err),
+        kinds::DIFF => diff(line, err),
         kinds::BUILD => build(line, err),
         kinds::RUN => no_run(err),
         kinds::NONE => TROUBLE,

@@ -15,8 +15,8 @@ use text::words::word;
 ghost use Prim.Native.Nat.{_≤_, _<_};
 
 // The commands, in the order of their numbers: those whose first file is a store, then the others.
-const NAMES: [u8; 93] =
-    *b"list\0get\0root\0set\0add\0unset\0witness\0prefix\0full\0range\0check\0read\0dot\0html\0ask\0merge\0build\0run";
+const NAMES: [u8; 98] =
+    *b"list\0get\0root\0set\0add\0unset\0witness\0prefix\0full\0range\0check\0read\0dot\0html\0ask\0merge\0diff\0build\0run";
 
 pub const LIST: usize = 0;
 
@@ -50,25 +50,27 @@ pub const ASK: usize = 14;
 
 pub const MERGE: usize = 15;
 
-pub const BUILD: usize = 16;
+pub const DIFF: usize = 16;
 
-pub const RUN: usize = 17;
+pub const BUILD: usize = 17;
+
+pub const RUN: usize = 18;
 
 // No command: its words are wrong, and that was said.
-pub const NONE: usize = 18;
+pub const NONE: usize = 19;
 
 // Help or the version was asked for, and said.
-pub const SAID: usize = 19;
+pub const SAID: usize = 20;
 
 // How each is written.
-const FORMS: [u8; 406] =
+const FORMS: [u8; 419] =
     *b"list STORE [--json]\0get STORE NAME\0root STORE\0set STORE NAME HEX\0add STORE NAME HEX\0unset STORE NAME\0\
 witness STORE OUT NAME\0prefix STORE OUT PREFIX\0full STORE OUT\0range STORE OUT FIRST LAST [--values]\0\
 check WITNESS DIGEST [--json], or check -c FILE\0read WITNESS [DIGEST] [--json]\0dot WITNESS [DIGEST]\0html WITNESS [DIGEST]\0\
-ask WITNESS DIGEST NAME\0merge ONE OTHER OUT\0build MAP STORE [--capacity N]\0run FILE";
+ask WITNESS DIGEST NAME\0merge ONE OTHER OUT\0diff OLD NEW\0build MAP STORE [--capacity N]\0run FILE";
 
 // Which word of each is a name of a register, 0 if none.
-const NAME_AT: [usize; 19] = [0, 2, 0, 2, 2, 2, 3, 3, 0, 3, 0, 0, 0, 0, 3, 0, 0, 0, 0];
+const NAME_AT: [usize; 20] = [0, 2, 0, 2, 2, 2, 3, 3, 0, 3, 0, 0, 0, 0, 3, 0, 0, 0, 0, 0];
 
 // ---- how many words, and which options
 
@@ -141,7 +143,7 @@ fn wanted(kind: usize) -> usize
 {
     match kind {
         LIST | ROOT | READ | DOT | HTML | RUN => 2,
-        GET | UNSET | FULL | CHECK | BUILD => 3,
+        GET | UNSET | FULL | CHECK | DIFF | BUILD => 3,
         SET | ADD | WITNESS | PREFIX | ASK | MERGE => 4,
         RANGE => 5,
         _ => 0,
@@ -324,7 +326,7 @@ fn no_option(line: &[u8], k: usize, err: i32) -> bool {
 fn files_ok(kind: usize, line: &[u8], err: i32) -> bool {
     if no_option(line, 1, err) {
         match kind {
-            WITNESS | PREFIX | FULL | RANGE | MERGE | BUILD => {
+            WITNESS | PREFIX | FULL | RANGE | MERGE | DIFF | BUILD => {
                 if no_option(line, 2, err) {
                     return true;
                 }
@@ -357,7 +359,7 @@ fn asks_help(line: &[u8]) -> bool {
 }
 
 fn known(kind: usize, line: &[u8], err: i32) -> usize
-    requires { ⌜ kind ≤ 18 ⌝ }
+    requires { ⌜ kind ≤ 19 ⌝ }
 {
     if !files_ok(kind, line, err) {
         return NONE;
