@@ -16,9 +16,9 @@
  * A store is 8 + 150 x capacity bytes (DAMPCANDLE_STORE_LENGTH), with room for capacity entries. It holds no pointers: it may be copied,
  * kept in a file and lent at another place. Every call judges it anew, all of it, and answers 1 unless it is sound.
  *
- * Stack, measured on x86-64 over a store of 1,024 entries with the longest keys and values (scripts/c-stack.sh): create 40 bytes, hash 1,336;
- * is_empty, count, root_hash, get, first_entry, next_entry, insert, modify, delete and replay up to 6,700; the witness calls up to 12,100;
- * rebuild 14,600 for a store's own witness, and up to 46,300 for bytes that are nested 64 records deep; write_cbor and read_cbor 2,000 and up to
+ * Stack, measured on x86-64 over a store of 1,024 entries with the longest keys and values (scripts/c-stack.sh): create 8 bytes, hash 1,100;
+ * is_empty, count, root_hash, get, first_entry, next_entry, insert, modify, delete and replay up to 6,700; the witness calls up to 8,300;
+ * rebuild 9,000 for a store's own witness, and up to 27,000 for bytes that are nested 64 records deep; write_cbor and read_cbor 2,000 and up to
  * 9,500. Nothing is allocated.
  *
  * Keys are byte strings of 0 to 48 bytes, in the order of their bytes as unsigned numbers, a proper prefix being smaller. Values are
@@ -47,7 +47,7 @@ enum dampcandle_number {
   DAMPCANDLE_LONG_VALUE = 3,   /* a value is longer than 64 bytes */
   DAMPCANDLE_REVERSED = 4,     /* first is above last, and two keys or more lie from last to first */
   DAMPCANDLE_FULL = 5,         /* insert of an absent key, and no slot is free */
-  DAMPCANDLE_NO_ROOM = 6,      /* the output is shorter than the witness */
+  DAMPCANDLE_NO_ROOM = 6,      /* the output is shorter than the witness or the list */
   DAMPCANDLE_ABSENT = 7,       /* get, modify, delete: no such key; first_entry, next_entry: no such entry */
   DAMPCANDLE_BAD_CAPACITY = 8, /* create: capacity 0 or above 1,024, or the length is not 8 + 150 x capacity */
   DAMPCANDLE_MALFORMED = 9,    /* rebuild: the bytes are not exactly one witness */
@@ -143,6 +143,18 @@ size_t dampcandle_value_range(const uint8_t *store, size_t store_length, const u
  * key above that does not begin with it. 0, 1, 2 or 6. */
 size_t dampcandle_keys_with_prefix(const uint8_t *store, size_t store_length, const uint8_t *prefix, size_t prefix_length, uint8_t *out,
                                    size_t out_length, size_t *length);
+
+/* ---- two stores */
+
+/* The most bytes that the list of two stores of these capacities can have: a line is a byte and a key. */
+#define DAMPCANDLE_DIFFERENCE_LENGTH(old_capacity, new_capacity) (49 * ((size_t)(old_capacity) + (size_t)(new_capacity)))
+
+/* What differs between two releases: a line for each key that is only in the old store (kind 1), only in the new one (2), or in both with
+ * another value (3), in key order, at the front of the output. A line is one byte, kind x 64 + key length, and the key. No line, length 0, means
+ * equal maps, whatever their shapes and root digests. 1 for the old store, 1 for the new one, or 6. Capacities may differ; the two stores may be
+ * the same bytes. */
+size_t dampcandle_difference(const uint8_t *old_store, size_t old_length, const uint8_t *new_store, size_t new_length, uint8_t *out,
+                             size_t out_length, size_t *length);
 
 /* ---- without a store */
 

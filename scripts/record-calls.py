@@ -2,7 +2,7 @@
 """record-calls.py ORACLE: writes crates/calls/stdin and stdout, the script of `calls` that the gate replays and what it must answer.
 
 The lines: the published vectors of SHA-256; the Interface Specification's worked tree, rebuilt, asked and exchanged; document 01's examples that
-are not starred, at the limits and one past them; a sound store with each of its bits turned; sound stores that no history makes, and
+are not starred, at the limits and one past them; two releases and the lines between them; a sound store with each of its bits turned; sound stores that no history makes, and
 lies whose digests are right; and a random history. A line that begins with # is a heading, and is answered as any line that is none.
 The answers are the oracle's (ORACLE, built by scripts/oracle.sh); those that are published are compared with what is published."""
 import hashlib
@@ -173,6 +173,39 @@ for order in ["abcd", "dcba"]:
     for k in order:
         say(f"insert {k.encode().hex()} {k.encode().hex()}")
     say("root", "first", *[f"next {k.encode().hex()}" for k in "abcd"])
+
+say("# two releases, the other being the old: at the start it is none; a, b against b, c; 5 bytes of output are too few")
+answers("room 200", "ok")
+answers("diff", "1 0 - 0")
+answers("swap", "ok")
+answers("store", "-")
+answers("buffer 308", "ok")
+answers("create 2", "0")
+answers("insert 61 01", "0")
+answers("insert 62 02", "0")
+answers("swap", "ok")
+answers("buffer 458", "ok")
+answers("diff", "1 0 - 0")
+answers("create 3", "0")
+answers("diff", "0 4 41614162 0")
+answers("insert 63 04", "0")
+answers("insert 62 03", "0")
+answers("diff", "0 6 4161c1628163 0")
+answers("room 5", "ok")
+answers("diff", "6 0 - 0")
+say("# the other way round; the empty key is a line of one byte; the same map in another store and order has no line")
+answers("room 6", "ok")
+answers("swap", "ok")
+answers("diff", "0 6 8161c1624163 0")
+answers("delete 61", "0")
+answers("insert - 07", "0")
+answers("diff", "0 5 80c1624163 0")
+for line in ["delete -", "insert 62 03", "swap", "delete 63"]:
+    answers(line, "0" if line != "swap" else "ok")
+answers("room 0", "ok")
+answers("diff", "0 0 - 0")
+answers("insert 62 0300", "0")
+answers("diff", "6 0 - 0")
 
 # ---- stores written by hand
 

@@ -287,6 +287,25 @@ try 1 '(12)' uncbor tagged.cbor none.w
 holds 'a refused uncbor wrote' test ! -e none.w
 try 2 'too few words' cbor ask.w
 
+# ---- diff
+fresh
+"$tool" build uart.map v.store --capacity 20 >/dev/null
+try 0 'no difference' diff u.store v.store
+try 0 'no difference' diff u.store u.store
+"$tool" set v.store 008.CTRL - >/dev/null && "$tool" unset v.store 00c.BAUD >/dev/null && "$tool" add v.store hex: 41 >/dev/null
+try 1 '3 differences' diff u.store v.store
+printf '+ hex: 41\n~ 008.CTRL 0008200300000000 -\n- 00c.BAUD 000c180300000d04\n3 differences\n' >wanted
+holds 'the lines of a difference' cmp -s out wanted
+try 1 '- hex: 41' diff v.store u.store
+holds '- is not standard input of diff' bash -c "'$tool' diff - u.store <u.store | grep -qx 'no difference'"
+printf x >>v.store && cp v.store kept.store
+try 2 'v.store: refused (1)' diff u.store v.store
+try 2 'v.store: refused (1)' diff v.store u.store
+holds 'diff changed a store' cmp -s v.store kept.store
+try 2 'is a witness and no store' diff u.store both.w
+try 2 'none.store' diff u.store none.store
+try 2 'too few words: diff OLD NEW' diff u.store
+
 # ---- the page: no script in it, and where Chromium is there it draws it
 "$tool" html ctrl.w $D >page.html
 holds 'a script in the page' bash -c '! grep -qi "<script" page.html'

@@ -229,6 +229,28 @@ static void exchange(void) {
   expect(length == 6 && !memcmp(out, one, 6), "there and back");
 }
 
+/* ---- two releases: a -> 1, b -> 2; then b -> 3, c -> 4 */
+
+static void releases(void) {
+  const uint8_t one = 1, two = 2, three = 3, four = 4, lines[6] = {0x41, 'a', 0xc1, 'b', 0x81, 'c'};
+  uint8_t old[DAMPCANDLE_STORE_LENGTH(2)] = {0}, new[DAMPCANDLE_STORE_LENGTH(3)] = {0};
+  expect(DAMPCANDLE_DIFFERENCE_LENGTH(2, 3) <= ROOM, "room for any list of the two");
+  dampcandle_create(old, sizeof old, 2);
+  dampcandle_insert(old, sizeof old, BYTES("a"), &one, 1);
+  dampcandle_insert(old, sizeof old, BYTES("b"), &two, 1);
+  dampcandle_create(new, sizeof new, 3);
+  dampcandle_insert(new, sizeof new, BYTES("c"), &four, 1);
+  dampcandle_insert(new, sizeof new, BYTES("b"), &three, 1);
+  answers(0, dampcandle_difference(old, sizeof old, new, sizeof new, out, ROOM, &length), "difference of two releases");
+  show("lines", out, length);
+  expect(length == 6 && !memcmp(out, lines, 6), "only in the old, another value, only in the new");
+  answers(0, dampcandle_difference(old, sizeof old, old, sizeof old, out, 0, &length), "difference of a release with itself");
+  expect(length == 0, "no line");
+  keep();
+  refused(6, dampcandle_difference(old, sizeof old, new, sizeof new, out, 5, &length), "difference, output of 5 bytes");
+  refused(1, dampcandle_difference(old, sizeof old, new, sizeof new - 1, out, 0, &length), "difference, the new store cut short");
+}
+
 static void capacities(void) {
   static uint8_t large[DAMPCANDLE_STORE_LENGTH(1025)]; /* all zero */
   answers(8, dampcandle_create(large, DAMPCANDLE_STORE_LENGTH(0), 0), "create, capacity 0");
@@ -275,6 +297,7 @@ int main(void) {
   refusals();
   known();
   exchange();
+  releases();
   capacities();
   replays();
   puts("as expected");

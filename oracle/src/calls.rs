@@ -4,6 +4,7 @@ use crate::cbor::{fromcbor, tocbor};
 use crate::logs::{edits, Edit};
 use crate::readings::{ask, merge, Parts};
 use crate::rb_tree::AsHashTree;
+use crate::releases::{lines, Pairs};
 use crate::sha256::sha256;
 use crate::store::{judge, place, Store};
 
@@ -11,12 +12,21 @@ const STORE_MOST: usize = 153_608;
 const OUTPUT_MOST: usize = 131_072;
 const LINE_MOST: usize = 320_000;
 
+/// The other store, as the store of `Calls`.
+#[derive(Default)]
+struct Other {
+    bytes: Vec<u8>,
+    store: Option<Option<Store>>,
+    ahead: bool,
+}
+
 pub struct Calls {
     bytes: Vec<u8>,
     /// The bytes as a store: not judged yet, judged and not sound, or sound.
     store: Option<Option<Store>>,
     /// The store has changed since `bytes` was written.
     ahead: bool,
+    other: Other,
     room: usize,
     parts: Parts,
 }
@@ -63,7 +73,7 @@ pub fn crossed(store: &Store, first: &[u8], last: &[u8]) -> bool {
 
 impl Calls {
     pub fn new() -> Calls {
-        Calls { bytes: vec![], store: None, ahead: false, room: 0, parts: Parts::default() }
+        Calls { bytes: vec![], store: None, ahead: false, other: Other::default(), room: 0, parts: Parts::default() }
     }
 
     fn now(&mut self) -> &mut Vec<u8> {
@@ -185,6 +195,28 @@ impl Calls {
         format!("{number} 0 - 0")
     }
 
+    fn swap(&mut self) {
+        std::mem::swap(&mut self.bytes, &mut self.other.bytes);
+        std::mem::swap(&mut self.store, &mut self.other.store);
+        std::mem::swap(&mut self.ahead, &mut self.other.ahead);
+    }
+
+    /// The other is the old store.
+    fn differ(&mut self) -> String {
+        self.swap();
+        self.sound();
+        self.swap();
+        self.sound();
+        let (Some(Some(old)), Some(Some(new))) = (&self.other.store, &self.store) else { return "1 0 - 0".into() };
+        let out = lines(old.map.iter(), new.map.iter());
+        if out.len() <= self.room { format!("0 {} {} 0", out.len(), hex(&out)) } else { "6 0 - 0".into() }
+    }
+
+    /// What the store holds; nothing, if it is not sound.
+    pub fn pairs(&mut self) -> Pairs {
+        self.sound().map_or(vec![], |s| s.map.iter().map(|(k, v)| (k.clone(), v.clone())).collect())
+    }
+
     pub fn answer(&mut self, line: &[u8]) -> String {
         if line.len() > LINE_MOST {
             return "?".into();
@@ -297,6 +329,11 @@ impl Calls {
                     format!("0 {}", hex(&sha256(&[&message])))
                 }
             }
+            ["swap"] => {
+                self.swap();
+                "ok".into()
+            }
+            ["diff"] => self.differ(),
             ["store"] => hex(self.now()),
             ["sum"] => hex(&sha256(&[self.now()])),
             _ => return None,

@@ -6,6 +6,7 @@ use crate::hash_tree::{empty, fork, labeled, leaf, pruned, HashTree, HashTreeNod
 use crate::lies::damaged;
 use crate::logs::log;
 use crate::rb_tree::AsHashTree;
+use crate::releases::lines;
 use crate::script::Random;
 use crate::store::Store;
 
@@ -268,6 +269,26 @@ fn message(r: &mut Random) -> Vec<u8> {
     r.bytes(n)
 }
 
+/// The store beside the other, which an earlier round left, or a copy with an entry changed; with an output about as long as the list.
+fn beside(r: &mut Random, store: &Store) -> Vec<String> {
+    let mut copy = Store::fresh((store.slots.len() + r.below(3)).clamp(1, 1024));
+    for key in store.slots.keys() {
+        let mut value = store.map.get(key).unwrap().clone();
+        if r.chance(8) {
+            turn_bit(r, &mut value);
+        }
+        copy.insert(key, &value);
+    }
+    let n = lines(store.map.iter(), copy.map.iter()).len();
+    let mut out = vec![format!("room {}", [n, n, n.saturating_sub(1), r.below(n + 1), 131_072][r.below(5)])];
+    if r.chance(2) {
+        let bytes = if r.chance(4) { damaged(r, copy.bytes()) } else { copy.bytes() };
+        out.extend(["swap".into(), format!("load {}", hex(&bytes)), "diff".into(), "sum".into(), "swap".into()]);
+    }
+    out.extend(["sum".into(), "diff".into(), "sum".into()]);
+    out
+}
+
 /// A script of about so many lines.
 pub fn script(seed: u64, lines: usize) -> Vec<Vec<u8>> {
     let mut r = Random::new(seed);
@@ -277,6 +298,9 @@ pub fn script(seed: u64, lines: usize) -> Vec<Vec<u8>> {
         let bytes = damaged(&mut r, store.bytes());
         out.push(format!("load {}", hex(&bytes)).into_bytes());
         out.push("sum".into());
+        if r.chance(3) {
+            out.extend(beside(&mut r, &store).into_iter().map(String::into_bytes));
+        }
         let calls = if bytes.len() > 20_000 { 4 } else { 8 };
         for _ in 0..calls {
             match r.below(20) {

@@ -21,14 +21,15 @@ fn numbers(call: &str) -> &'static [usize] {
         "merge" => &[0, 6, 9, 15],
         "tocbor" => &[0, 6, 9],
         "fromcbor" => &[0, 6, 12],
+        "diff" => &[0, 1, 6],
         "hash" => &[0, 10],
         _ => &[],
     }
 }
 
-const CALLS: [&str; 25] = [
+const CALLS: [&str; 26] = [
     "create", "insert", "modify", "delete", "get", "first", "next", "count", "empty", "root", "full", "keys", "witness", "krange", "vrange",
-    "prefix", "rebuild", "hash", "ask", "merge", "part", "end", "tocbor", "fromcbor", "replay",
+    "prefix", "rebuild", "hash", "ask", "merge", "part", "end", "tocbor", "fromcbor", "replay", "diff",
 ];
 
 /// What stands after the number of a refused call.
@@ -40,7 +41,7 @@ fn refused(call: &str) -> String {
         "empty" => " no".into(),
         "ask" => " refused 0 0".into(),
         "root" | "rebuild" | "hash" | "end" => format!(" {}", "00".repeat(32)),
-        "full" | "keys" | "witness" | "krange" | "vrange" | "prefix" | "merge" | "tocbor" | "fromcbor" => " 0 - 0".into(),
+        "full" | "keys" | "witness" | "krange" | "vrange" | "prefix" | "merge" | "tocbor" | "fromcbor" | "diff" => " 0 - 0".into(),
         _ => String::new(),
     }
 }
@@ -112,7 +113,7 @@ impl Held {
                     sum = answer.clone();
                     refused = false;
                 }
-                "load" | "buffer" | "poke" | "room" | "begin" | "store" => refused = false,
+                "load" | "buffer" | "poke" | "room" | "begin" | "swap" | "store" => refused = false,
                 _ => refused = self.call(name, &text, answer).is_some_and(|n| n != 0),
             }
         }

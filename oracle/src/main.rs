@@ -21,6 +21,7 @@ mod nested;
 #[path = "rust_map.rs"]
 mod rb_tree;
 mod readings;
+mod releases;
 mod script;
 mod sha256;
 mod store;

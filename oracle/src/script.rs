@@ -1,9 +1,10 @@
 //! Random scripts for `calls`: histories on stores of many capacities, with keys that share fronts, lie side by side or are
-//! extreme, refused calls and build logs among them, every witness call at present, absent and extreme bounds, and damaged stores; and the witnesses
-//! that come out asked, merged, written in CBOR and back, and rebuilt in parts, as they are and damaged.
+//! extreme, refused calls and build logs among them, every witness call at present, absent and extreme bounds, and damaged stores; the witnesses
+//! that come out asked, merged, written in CBOR and back, and rebuilt in parts, as they are and damaged; and each store beside one that holds nearly the same.
 use crate::calls::{hex, unhex, Calls};
 use crate::cbor;
 use crate::logs::log;
+use crate::releases::releases;
 
 pub struct Random(u64);
 
@@ -79,7 +80,7 @@ impl Keys {
 
 fn query(r: &mut Random, keys: &mut Keys) -> String {
     let a = keys.any(r);
-    match r.below(14) {
+    match r.below(15) {
         0 => "first".into(),
         1 => format!("next {}", hex(&a)),
         2 => "count".into(),
@@ -94,6 +95,7 @@ fn query(r: &mut Random, keys: &mut Keys) -> String {
             format!("{} {} {}", ["krange", "vrange"][r.below(2)], hex(&a), hex(&b))
         }
         12 => format!("prefix {}", hex(&a[..r.below(a.len() + 1)])),
+        13 => "diff".into(),
         _ => format!("get {}", hex(&a)),
     }
 }
@@ -257,6 +259,12 @@ pub fn script(seed: u64, lines: usize) -> Vec<String> {
             }
         }
         out.push("root".into());
+        for line in &out[told..] {
+            made.answer(line.as_bytes());
+        }
+        told = out.len();
+        let map = made.pairs();
+        out.extend(releases(&mut r, &map, room));
         for _ in 0..r.below(6) {
             out.push(format!("poke {} {}", r.below(length), hex(&[r.below(256) as u8])));
             for _ in 0..3 {
@@ -265,6 +273,11 @@ pub fn script(seed: u64, lines: usize) -> Vec<String> {
             out.push("insert 61 62".into());
             out.push(["replay 0102610b", "replay 0103610b"][r.below(2)].into());
             out.push("sum".into());
+            if r.chance(3) {
+                out.push("diff".into());
+                out.push("swap".into());
+                out.push("diff".into());
+            }
         }
     }
     out.truncate(lines);

@@ -2,7 +2,7 @@
 _regmap() {
   local word=${COMP_WORDS[COMP_CWORD]} options=
   if [ "$COMP_CWORD" = 1 ]; then
-    mapfile -t COMPREPLY < <(compgen -W 'build list get root set add unset replay witness range prefix full check read dot html log run help --help --version' -- "$word")
+    mapfile -t COMPREPLY < <(compgen -W 'build list get root diff set add unset replay witness range prefix full merge cbor uncbor check ask read dot html log run help --help --version' -- "$word")
     return
   fi
   case ${COMP_WORDS[1]} in

@@ -16,6 +16,7 @@ ghost use Rattle.hash_tree.specs.Whole.{rebuilt};
 ghost use Rattle.store.specs.Calls.{createAnswer, isEmptyAnswer, countAnswer, rootHashAnswer, getAnswer, firstEntryAnswer, nextEntryAnswer, insertAnswer, modifyAnswer, deleteAnswer, asHashTreeAnswer, keysAnswer, witnessAnswer, keyRangeAnswer, valueRangeAnswer, keysWithPrefixAnswer};
 ghost use Rattle.store.specs.Replay.{replayAnswer};
 ghost use Rattle.replay.specs.Runs.{ranTo};
+ghost use Rattle.store.specs.Difference.{differenceAnswer};
 ghost use Rattle.answers.specs.Answers.{answered, changedOf};
 ghost use Rattle.lookup.specs.Answer.{lookupAnswer};
 ghost use Rattle.merge.specs.Answer.{mergeAnswer};
@@ -325,6 +326,20 @@ pub extern "C" fn dampcandle_keys_with_prefix(
     ensures { λ r. ⌜ writtenIs r (now (length .exit)) (now (out .exit)) ≡ writtenTo (now (length .entry)) (keysWithPrefixAnswer (now (prefix .entry)) (now (store .entry)) (now (out .entry))) ⌝ }
 {
     put_length(register_map::keys_with_prefix(store, prefix, out), length)
+}
+
+// ---- two stores
+
+#[no_mangle]
+pub extern "C" fn dampcandle_difference(
+    old: &[u8],
+    new: &[u8],
+    out: &mut [u8],
+    length: &mut usize,
+) -> usize
+    ensures { λ r. ⌜ writtenIs r (now (length .exit)) (now (out .exit)) ≡ writtenTo (now (length .entry)) (differenceAnswer (now (old .entry)) (now (new .entry)) (now (out .entry))) ⌝ }
+{
+    put_length(register_map::difference(old, new, out), length)
 }
 
 // ---- without a store

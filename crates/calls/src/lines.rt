@@ -9,6 +9,7 @@ use crate::names::Change;
 use crate::names::Feed;
 use crate::names::Setup;
 use crate::names::Show;
+use crate::names::Two;
 use crate::reply::say_bytes;
 use crate::reply::say_count;
 use crate::reply::say_digest;
@@ -24,9 +25,10 @@ use answers::Saved;
 use parts::STATE;
 use text::words::within;
 
-// How many bytes of the store and of the output are in use.
+// How many bytes of the store, of the other store and of the output are in use. The two stores are the halves of one buffer.
 struct Sizes {
     store: usize,
+    other: usize,
     output: usize,
 }
 
@@ -53,6 +55,7 @@ fn buffer(n: u64, store: &mut [u8], sizes: Sizes) -> Sizes {
     say_ok();
     Sizes {
         store: n as usize,
+        other: sizes.other,
         output: sizes.output,
     }
 }
@@ -66,6 +69,7 @@ fn load(new: &[u8], store: &mut [u8], sizes: Sizes) -> Sizes {
     say_ok();
     Sizes {
         store: n,
+        other: sizes.other,
         output: sizes.output,
     }
 }
@@ -92,6 +96,7 @@ fn room(n: u64, most: usize, sizes: Sizes) -> Sizes {
     say_ok();
     Sizes {
         store: sizes.store,
+        other: sizes.other,
         output: n as usize,
     }
 }
@@ -210,6 +215,49 @@ fn show(which: Show, a: &[u8], b: &[u8], store: &[u8], output: &mut [u8]) {
     say_witness(r, output, touched(output, r.size));
 }
 
+// ---- the two stores
+
+// The two halves change places.
+fn exchange(both: &mut [u8]) {
+    let half = both.len() / 2;
+    let mut i = 0;
+    while i < half {
+        let b = both[i];
+        both[i] = both[half + i];
+        both[half + i] = b;
+        i += 1;
+    }
+}
+
+// The other is the old store.
+fn differ(both: &[u8], output: &mut [u8], sizes: Sizes) {
+    let half = both.len() / 2;
+    let other = &both[half..];
+    let k = within(sizes.other, other);
+    let n = within(sizes.store, both);
+    fill(output, UNTOUCHED);
+    let r = register_map::difference(&other[..k], &both[..n], output);
+    say_witness(r, output, touched(output, r.size));
+}
+
+fn two(which: Two, both: &mut [u8], output: &mut [u8], sizes: Sizes) -> Sizes {
+    match which {
+        Two::Swap => {
+            exchange(both);
+            say_ok();
+            Sizes {
+                store: sizes.other,
+                other: sizes.store,
+                output: sizes.output,
+            }
+        }
+        Two::Diff => {
+            differ(both, output, sizes);
+            sizes
+        }
+    }
+}
+
 // ---- lines
 
 // These bytes of a line, which has them.
@@ -260,16 +308,20 @@ fn feed(x: Asked, line: &[u8], state: &mut [u8; STATE]) {
 }
 
 // Answers any other line.
-fn answer(x: Asked, line: &[u8], store: &mut [u8], output: &mut [u8], sizes: Sizes) -> Sizes {
+fn answer(x: Asked, line: &[u8], both: &mut [u8], output: &mut [u8], sizes: Sizes) -> Sizes {
     let call = x.call;
     let a = part(line, x.a);
     if let Call::Setup(which) = call {
-        return set_up(which, x.number, a, store, output.len(), sizes);
+        let half = both.len() / 2;
+        return set_up(which, x.number, a, &mut both[..half], output.len(), sizes);
+    }
+    let m = within(sizes.output, output);
+    if let Call::Two(which) = call {
+        return two(which, both, &mut output[..m], sizes);
     }
     let b = part(line, x.b);
-    let k = within(sizes.store, store);
-    let m = within(sizes.output, output);
-    perform(call, x.number, a, b, &mut store[..k], &mut output[..m]);
+    let k = within(sizes.store, both);
+    perform(call, x.number, a, b, &mut both[..k], &mut output[..m]);
     sizes
 }
 
@@ -277,21 +329,21 @@ fn answer(x: Asked, line: &[u8], store: &mut [u8], output: &mut [u8], sizes: Siz
 fn turn(
     line: &mut [u8],
     n: usize,
-    store: &mut [u8],
+    both: &mut [u8],
     output: &mut [u8],
     state: &mut [u8; STATE],
     sizes: Sizes,
 ) -> Sizes {
     let asked = read(line, n);
     feed(asked, line, state);
-    answer(asked, line, store, output, sizes)
+    answer(asked, line, both, output, sizes)
 }
 
 // A loop has to end, and nothing says that the input does: it counts its turns down, from a number that no run uses up.
 pub(crate) fn run(
     chunk: &mut [u8],
     line: &mut [u8],
-    store: &mut [u8],
+    both: &mut [u8],
     output: &mut [u8],
     state: &mut [u8; STATE],
 ) {
@@ -301,6 +353,7 @@ pub(crate) fn run(
     let mut end = 0;
     let mut sizes = Sizes {
         store: 0,
+        other: 0,
         output: 0,
     };
     while turns > 0 {
@@ -311,6 +364,6 @@ pub(crate) fn run(
         }
         at = got.at;
         end = got.end;
-        sizes = turn(line, got.len, store, output, state, sizes);
+        sizes = turn(line, got.len, both, output, state, sizes);
     }
 }

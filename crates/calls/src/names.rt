@@ -52,6 +52,12 @@ pub(crate) enum Show {
     FromCbor,
 }
 
+// About the store and the other.
+pub(crate) enum Two {
+    Swap,
+    Diff,
+}
+
 pub(crate) enum Call {
     Setup(Setup),
     Change(Change),
@@ -59,6 +65,7 @@ pub(crate) enum Call {
     Show(Show),
     Feed(Feed),
     Replay,
+    Two(Two),
     Unknown,
 }
 
@@ -66,7 +73,7 @@ pub(crate) enum Call {
 fn alone(name: &[u8]) -> Call {
     match place(
         name,
-        b"first count empty root store sum full keys begin end",
+        b"first count empty root store sum full keys begin end swap diff",
     ) {
         0 => Call::Ask(Ask::First),
         1 => Call::Ask(Ask::Count),
@@ -78,6 +85,8 @@ fn alone(name: &[u8]) -> Call {
         7 => Call::Show(Show::Keys),
         8 => Call::Feed(Feed::Begin),
         9 => Call::Feed(Feed::End),
+        10 => Call::Two(Two::Swap),
+        11 => Call::Two(Two::Diff),
         _ => Call::Unknown,
     }
 }

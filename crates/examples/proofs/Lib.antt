@@ -1,3 +1,4 @@
--- The starred examples of document 01 hold, and the examples of replay.
+-- The examples hold.
 pub mod Table
 pub mod Logs
+pub mod Difference

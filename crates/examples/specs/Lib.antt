@@ -1,3 +1,4 @@
--- The starred examples of document 01, and examples of replay.
+-- The starred examples of document 01, examples of replay, and the difference of two releases.
 pub mod Examples
 pub mod Logs
+pub mod Difference

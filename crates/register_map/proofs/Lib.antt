@@ -2,3 +2,4 @@
 pub mod Refusing
 pub mod Changing
 pub mod Witnessing
+pub mod Differing

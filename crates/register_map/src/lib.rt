@@ -26,6 +26,7 @@ ghost use Rattle.sha256.specs.Hashed.{hashed};
 ghost use Rattle.hash_tree.specs.Whole.{rebuilt};
 ghost use Rattle.store.specs.Calls.{createAnswer, isEmptyAnswer, countAnswer, rootHashAnswer, getAnswer, firstEntryAnswer, nextEntryAnswer, insertAnswer, modifyAnswer, deleteAnswer, asHashTreeAnswer, keysAnswer, witnessAnswer, keyRangeAnswer, valueRangeAnswer, keysWithPrefixAnswer};
 ghost use Rattle.store.specs.Replay.{replayAnswer};
+ghost use Rattle.store.specs.Difference.{differenceAnswer};
 ghost use Rattle.answers.specs.Answers.{noEntry, unwritten, answered, changedOf};
 ghost use Rattle.search.specs.Search.{answerOf};
 ghost use Rattle.lookup.specs.Answer.{lookupAnswer};
@@ -311,6 +312,21 @@ pub fn keys_with_prefix(store: &[u8], prefix: &[u8], out: &mut [u8]) -> Saved
         return refuse(LONG_KEY);
     }
     witness::keys_with_prefix(store, prefix, out)
+}
+
+// ---- two stores
+
+// What differs between two releases, in key order: names only in the old, only in the new, and in both with another value.
+pub fn difference(old: &[u8], new: &[u8], out: &mut [u8]) -> Saved
+    ensures { λ r. ⌜ answered r (now (out .exit)) ≡ differenceAnswer (now (old .entry)) (now (new .entry)) (now (out .entry)) ⌝ }
+{
+    if !judge(old) {
+        return refuse(NOT_SOUND);
+    }
+    if !judge(new) {
+        return refuse(NOT_SOUND);
+    }
+    difference::difference(old, new, out)
 }
 
 // ---- without a store

@@ -6,6 +6,7 @@ use crate::witnesses;
 use regmap_check::exchange::exchange_file;
 use regmap_check::inspect;
 use regmap_check::merge_files;
+use regmap_diff::diff;
 use regmap_log::show;
 use regmap_words::kinds;
 use regmap_words::kinds::kind_of;
@@ -30,6 +31,7 @@ pub(crate) fn command(line: &[u8], err: i32) -> usize {
         6..=9 => witnesses::cut(kind, line, err),
         kinds::MERGE => merge_files(line, err),
         kinds::CBOR | kinds::UNCBOR => exchange_file(kind, line, err),
+        kinds::DIFF => diff(line, err),
         kinds::BUILD => build(line, err),
         kinds::REPLAY => replay(line, err),
         kinds::LOG => show(line, err),

@@ -1,9 +1,8 @@
 // Commands that read or change one store.
 use judge::judge;
-use regmap_files::Holds;
+use regmap_check::no_store;
 use regmap_files::Loaded;
 use regmap_files::finish;
-use regmap_files::kind_of;
 use regmap_files::load;
 use regmap_files::lock;
 use regmap_files::release;
@@ -33,28 +32,6 @@ ghost use Rattle.store.specs.Sound.{Sound};
 pub(crate) const ROOM: usize = 153_609;
 
 // ---- refusals
-
-// A store that is refused for its bytes: what it is, where the first bytes tell.
-fn no_store(path: &[u8], store: &[u8], err: i32) -> usize {
-    match kind_of(store) {
-        Holds::Witness => say3(
-            err,
-            b"regmap: ",
-            path,
-            b" is a witness and no store: use check, read or dot.\n",
-        ),
-        Holds::Other => say3(
-            err,
-            b"regmap: ",
-            path,
-            b": refused (1) these are not the bytes of a store. If it is a map, build a store from it first.\n",
-        ),
-        _ => {
-            refuse(err, path, 1);
-        }
-    }
-    REFUSED
-}
 
 // Refused by the number: 1 is of the store, any other of the word.
 pub(crate) fn refuse_on(err: i32, line: &[u8], store: &[u8], what: &[u8], number: usize) -> usize {

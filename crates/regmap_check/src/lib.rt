@@ -41,6 +41,28 @@ use text::words::word;
 
 // ---- checking
 
+// A store that is refused for its bytes: what it is, where the first bytes tell.
+pub fn no_store(path: &[u8], store: &[u8], err: i32) -> usize {
+    match kind_of(store) {
+        Holds::Witness => say3(
+            err,
+            b"regmap: ",
+            path,
+            b" is a witness and no store: use check, read or dot.\n",
+        ),
+        Holds::Other => say3(
+            err,
+            b"regmap: ",
+            path,
+            b": refused (1) these are not the bytes of a store. If it is a map, build a store from it first.\n",
+        ),
+        _ => {
+            refuse(err, path, 1);
+        }
+    }
+    REFUSED
+}
+
 // A file that is refused for its bytes: what it is, where the first bytes tell.
 pub(crate) fn no_witness(path: &[u8], bytes: &[u8], err: i32) -> usize {
     match kind_of(bytes) {

@@ -15,8 +15,8 @@ use text::words::word;
 ghost use Prim.Native.Nat.{_≤_, _<_};
 
 // The commands, in the order of their numbers: those whose first file is a store, then the others.
-const NAMES: [u8; 116] =
-    *b"list\0get\0root\0set\0add\0unset\0witness\0prefix\0full\0range\0check\0read\0dot\0html\0ask\0merge\0cbor\0uncbor\0build\0run\0replay\0log";
+const NAMES: [u8; 121] =
+    *b"list\0get\0root\0set\0add\0unset\0witness\0prefix\0full\0range\0check\0read\0dot\0html\0ask\0merge\0cbor\0uncbor\0build\0run\0replay\0log\0diff";
 
 pub const LIST: usize = 0;
 
@@ -62,18 +62,21 @@ pub const REPLAY: usize = 20;
 
 pub const LOG: usize = 21;
 
+pub const DIFF: usize = 22;
+
 // No command: its words are wrong, and that was said.
-pub const NONE: usize = 22;
+pub const NONE: usize = 23;
 
 // Help or the version was asked for, and said.
-pub const SAID: usize = 23;
+pub const SAID: usize = 24;
 
 // How each is written.
-const FORMS: [u8; 464] =
+const FORMS: [u8; 477] =
     *b"list STORE [--json]\0get STORE NAME\0root STORE\0set STORE NAME HEX\0add STORE NAME HEX\0unset STORE NAME\0\
 witness STORE OUT NAME\0prefix STORE OUT PREFIX\0full STORE OUT\0range STORE OUT FIRST LAST [--values]\0\
 check WITNESS DIGEST [--json], or check -c FILE\0read WITNESS [DIGEST] [--json]\0dot WITNESS [DIGEST]\0html WITNESS [DIGEST]\0\
-ask WITNESS DIGEST NAME\0merge ONE OTHER OUT\0cbor WITNESS OUT\0uncbor CBOR OUT\0build MAP STORE [--capacity N]\0run FILE\0replay STORE LOG\0log LOG";
+ask WITNESS DIGEST NAME\0merge ONE OTHER OUT\0cbor WITNESS OUT\0uncbor CBOR OUT\0build MAP STORE [--capacity N]\0run FILE\0\
+replay STORE LOG\0log LOG\0diff OLD NEW";
 
 // Which word of each is a name of a register, 0 if none.
 fn name_at(kind: usize) -> usize {
@@ -152,7 +155,7 @@ fn wanted(kind: usize) -> usize
 {
     match kind {
         LIST | ROOT | READ | DOT | HTML | RUN | LOG => 2,
-        GET | UNSET | FULL | CHECK | CBOR | UNCBOR | BUILD | REPLAY => 3,
+        GET | UNSET | FULL | CHECK | CBOR | UNCBOR | BUILD | REPLAY | DIFF => 3,
         SET | ADD | WITNESS | PREFIX | ASK | MERGE => 4,
         RANGE => 5,
         _ => 0,
@@ -335,7 +338,7 @@ fn no_option(line: &[u8], k: usize, err: i32) -> bool {
 fn files_ok(kind: usize, line: &[u8], err: i32) -> bool {
     if no_option(line, 1, err) {
         match kind {
-            WITNESS | PREFIX | FULL | RANGE | MERGE | CBOR | UNCBOR | BUILD | REPLAY => {
+            WITNESS | PREFIX | FULL | RANGE | MERGE | CBOR | UNCBOR | BUILD | REPLAY | DIFF => {
                 if no_option(line, 2, err) {
                     return true;
                 }

@@ -21,7 +21,7 @@ pub fn version() {
     say(OUT, &VERSION);
 }
 
-const USAGE: [u8; 2138] =
+const USAGE: [u8; 2206] =
     *b"regmap: a map of registers as a store with a root digest, and witnesses of it
 
                regmap ..                       for example, regmap ..
@@ -29,6 +29,7 @@ const USAGE: [u8; 2138] =
                list STORE [--json]             list u.store
                get STORE NAME                  get u.store 008.CTRL
                root STORE                      root u.store
+               diff OLD NEW                    diff u.store v.store
   a change     set STORE NAME HEX              set u.store 008.CTRL 0008
                add STORE NAME HEX              add u.store 010.NEW 0010
                unset STORE NAME                unset u.store 008.CTRL

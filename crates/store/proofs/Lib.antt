@@ -11,6 +11,7 @@ pub mod Replacing
 pub mod Reading
 pub mod Witnessing
 pub mod Demand
+pub mod Difference
 pub mod Table
 pub mod Refusing
 pub mod Viewing

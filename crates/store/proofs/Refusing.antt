@@ -23,9 +23,12 @@ use Rattle.store.specs.Model.{Model, fresh}
 use Rattle.store.specs.Decide.{onSound}
 use Rattle.store.specs.Answers.{told, counted, digested, found, changed, written, fitting}
 use Rattle.store.specs.Calls.{refuse, getIn, firstIn, nextIn, insertIn, modifyIn, deleteIn, ofKey, ofRange, witnessed, createAnswer, isEmptyAnswer, countAnswer, rootHashAnswer, getAnswer, firstEntryAnswer, nextEntryAnswer, insertAnswer, modifyAnswer, deleteAnswer, asHashTreeAnswer, keysAnswer, witnessAnswer, keysWithPrefixAnswer, keyRangeAnswer, valueRangeAnswer}
+use Rattle.answers.specs.Answers.{fitted}
+use Rattle.llrb.specs.Difference.{difference}
 use Rattle.store.specs.History.{Edit}
 use Rattle.store.specs.Log.{readLog}
 use Rattle.store.specs.Replay.{replayed, orBadLog, replayAnswer}
+use Rattle.store.specs.Difference.{mapIn, linesBytes, differenceAnswer}
 use Rattle.store.specs.Demand.{Kept, Unwritten, Unreplayed, Nothing, Demand1}
 
 told-no : (o : Outcome Bool) → told o .number ≢ 0 → told o .yes ≡ false
@@ -60,6 +63,11 @@ unreplayed s (done es) n = absurd (n refl)
 witnessed-kept : (make : Model → Outcome HashTree) (s out : List ℕ) → Unwritten out (witnessed make s out)
 unfolding witnessed
 witnessed-kept make s out = unwritten out (fitting out (onSound s make (refused NotSound)))
+
+difference-kept : (old new out : List ℕ) → Unwritten out (differenceAnswer old new out)
+unfolding differenceAnswer
+difference-kept old new out =
+    unwritten out (fitted out (onSound old (λ m. onSound new (λ n. done (linesBytes (difference (mapIn m) (mapIn n)))) (refused NotSound)) (refused NotSound)))
 
 rebuilt-none : (z : Parsed) → alone z .number ≢ 0 → alone z .digest ≡ zeros 32
 unfolding zeros
@@ -100,6 +108,7 @@ demand-1 s =
       keyRange = λ first last out. witnessed-kept (ofRange keyRange first last) s out;
       valueRange = λ first last out. witnessed-kept (ofRange valueRange first last) s out;
       replay = λ log. unreplayed s (onSound s (λ m. orBadLog (readLog log)) (refused NotSound));
+      difference = difference-kept s;
       rebuild = λ w. rebuilt-none (parse maxDepth w);
       hash = hashed-none;
     }

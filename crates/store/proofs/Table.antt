@@ -24,12 +24,15 @@ use Rattle.store.specs.Decode.{decode}
 use Rattle.store.specs.Decide.{represents?, onSound}
 use Rattle.store.specs.Answers.{told, counted, digested, found, changed, written, fitting}
 use Rattle.store.specs.Calls.{refuse, longKey, longValue, crossedRange, isNone, absent, noFreeSlot, entryOr, getIn, firstIn as firstEntryIn, nextIn, insertIn, modifyIn, deleteIn, ofKey, ofRange, witnessed, createAnswer, isEmptyAnswer, countAnswer, rootHashAnswer, getAnswer, firstEntryAnswer, nextEntryAnswer, insertAnswer, modifyAnswer, deleteAnswer, asHashTreeAnswer, keysAnswer, witnessAnswer, keysWithPrefixAnswer, keyRangeAnswer, valueRangeAnswer}
+use Rattle.llrb.specs.Difference.{difference}
+use Rattle.store.specs.Difference.{mapIn, linesBytes, differenceAnswer}
 use Rattle.store.specs.History.{Edit}
 use Rattle.store.specs.Log.{readLog}
 use Rattle.store.specs.Replay.{replayed, orBadLog, replayAnswer}
 use Rattle.store.specs.Table.{Row, when, applies, firstIn, notSound, shorter, malformed, Table}
 use Rattle.store.proofs.Refusing.{hashedIf}
 use Rattle.store.proofs.Decoding.{on-sound, on-unsound, sound-decodes}
+use Rattle.store.proofs.Difference.{difference-of, old-unsound, new-unsound}
 
 -- 1 comes first, and is given exactly for a store that is not sound
 by-soundness : {A : Type 0} (s : List ℕ) (o : Model → Outcome A) (number : Outcome A → ℕ) (rows : List Row) → number (refused NotSound) ≡ 1 → applies NotSound rows ≡ false
@@ -98,6 +101,26 @@ replay-number : (s : List ℕ) (o : Option (List Edit)) → replayed s (orBadLog
 replay-number s none = refl
 replay-number s (some es) = refl
 
+-- 1 of either store comes before 6
+difference-number : (old new out : List ℕ)
+    → differenceAnswer old new out .number
+    ≡ firstIn (notSound old ∷ notSound new ∷ when NoRoom (ltb (length out) (length (linesBytes (difference (mapIn (decode old)) (mapIn (decode new)))))) ∷ [])
+difference-number old new out = at (represents? old (decode old)) (represents? new (decode new))
+  where
+    lines : List ℕ
+    lines = linesBytes (difference (mapIn (decode old)) (mapIn (decode new)))
+
+    room : (b : Bool) → written out (cond b (refused NoRoom) (done lines)) .number ≡ firstIn (when NoRoom b ∷ [])
+    room true = refl
+    room false = refl
+
+    at : Dec (Represents old (decode old)) → Dec (Represents new (decode new))
+        → differenceAnswer old new out .number ≡ firstIn (notSound old ∷ notSound new ∷ when NoRoom (ltb (length out) (length lines)) ∷ [])
+    at (no x) z = rw (old-unsound {old = old} new out (λ h. x (sound-decodes h)), on-unsound {s = old} (λ h. x (sound-decodes h)) (λ m. false) true)
+    at (yes a) (no y) =
+        rw (new-unsound {old = old} {new = new} out (decode old, a) (λ h. y (sound-decodes h)), on-sound a (λ m. false) true, on-unsound {s = new} (λ h. y (sound-decodes h)) (λ m. false) true)
+    at (yes a) (yes b) = rw (difference-of a b out, on-sound a (λ m. false) true, on-sound b (λ m. false) true) (room (ltb (length out) (length lines)))
+
 create-number : (s : List ℕ) (b : Bool) (n : Model) → changed s (refuse b BadCapacity (done n)) .number ≡ cond b (numberOf BadCapacity) 0
 create-number s true n = refl
 create-number s false n = refl
@@ -162,6 +185,7 @@ table s =
           (range-number out (longKey first || longKey last) (crossedRange first last (m .tree)) (valueRange first last (m .tree)));
       replay = λ log.
           by-soundness s (λ m. orBadLog (readLog log)) (λ o. replayed s o .number) (when BadLog (isNone (readLog log)) ∷ []) refl refl (replay-number s (readLog log));
+      difference = difference-number s;
       create = λ capacity.
           create-number s (eqb capacity 0 || (ltb 1024 capacity || not (eqb (length s) (storeLength capacity)))) (fresh capacity);
       rebuild = λ w. rebuild-number (parse maxDepth w);

@@ -27,6 +27,7 @@ use Rattle.store.specs.Answers.{Found, Changed, Written}
 use Rattle.store.specs.Calls.{isNone, createAnswer, isEmptyAnswer, countAnswer, rootHashAnswer, getAnswer, firstEntryAnswer, nextEntryAnswer, insertAnswer, modifyAnswer, deleteAnswer, asHashTreeAnswer, keysAnswer, witnessAnswer, keysWithPrefixAnswer, keyRangeAnswer, valueRangeAnswer}
 use Rattle.store.specs.Replay.{Replayed, replayAnswer}
 use Rattle.store.specs.History.{Edit, accepted, lastValue, mapAfter, firstPair, pairAbove, modelFrom, newKeys, deletes}
+use Rattle.store.specs.Difference.{differenceAnswer}
 
 -- ---- demand 1: any number but 0 leaves all lent bytes as found; other numbers are 0, a yes or no is no, digests are 32 zero bytes
 
@@ -60,6 +61,7 @@ pub record Demand1 (s : List ℕ) : Type 0 where
   pub keyRange : (first last : Key) (out : List ℕ) → Unwritten out (keyRangeAnswer first last s out)
   pub valueRange : (first last : Key) (out : List ℕ) → Unwritten out (valueRangeAnswer first last s out)
   pub replay : (log : List ℕ) → Unreplayed s (replayAnswer log s)
+  pub difference : (new out : List ℕ) → Unwritten out (differenceAnswer s new out)
   pub rebuild : (w : List ℕ) → whole.rebuilt w .number ≢ 0 → whole.rebuilt w .digest ≡ zeros 32
   pub hash : (message : List ℕ) → hashed message .number ≢ 0 → hashed message .digest ≡ zeros 32
 

@@ -16,6 +16,7 @@ pub mod Calls
 pub mod History
 pub mod Log
 pub mod Replay
+pub mod Difference
 pub mod Table
 pub mod Demand
 pub mod Longest

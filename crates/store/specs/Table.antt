@@ -21,6 +21,8 @@ use Rattle.store.specs.Numbers.{Refusal, NotSound, LongKey, LongValue, R
 use Rattle.store.specs.Decode.{decode}
 use Rattle.store.specs.Decide.{onSound}
 use Rattle.store.specs.Calls.{longKey, longValue, crossedRange, isNone, absent, noFreeSlot, createAnswer, isEmptyAnswer, countAnswer, rootHashAnswer, getAnswer, firstEntryAnswer, nextEntryAnswer, insertAnswer, modifyAnswer, deleteAnswer, asHashTreeAnswer, keysAnswer, witnessAnswer, keysWithPrefixAnswer, keyRangeAnswer, valueRangeAnswer}
+use Rattle.llrb.specs.Difference.{difference}
+use Rattle.store.specs.Difference.{mapIn, linesBytes, differenceAnswer}
 use Rattle.store.specs.Log.{readLog}
 use Rattle.store.specs.Replay.{replayAnswer}
 
@@ -91,6 +93,10 @@ pub record Table (s : List ℕ) : Type 0 where
       → valueRangeAnswer first last s out .number
       ≡ firstIn (notSound s ∷ when LongKey (longKey first || longKey last) ∷ when Reversed (crossedRange first last (decode s .tree)) ∷ shorter out (valueRange first last (decode s .tree)) ∷ [])
   pub replay : (log : List ℕ) → replayAnswer log s .number ≡ firstIn (notSound s ∷ when BadLog (isNone (readLog log)) ∷ [])
+  -- the old store s comes before the new one
+  pub difference : (new out : List ℕ)
+      → differenceAnswer s new out .number
+      ≡ firstIn (notSound s ∷ notSound new ∷ when NoRoom (ltb (length out) (length (linesBytes (difference (mapIn (decode s)) (mapIn (decode new)))))) ∷ [])
   -- create alone answers 8, and nothing else
   pub create : (capacity : ℕ)
       → createAnswer capacity s .number ≡ cond (eqb capacity 0 || (ltb 1024 capacity || not (eqb (length s) (storeLength capacity)))) (numberOf BadCapacity) 0

@@ -13,7 +13,7 @@ slice-aggregate-run-2 : tie.Need-slice-aggregate-run-2
 slice-aggregate-run-2 c = sym (length-replicate {A = ℕ} 320000 0)
 
 slice-aggregate-run-3 : tie.Need-slice-aggregate-run-3
-slice-aggregate-run-3 c = sym (length-replicate {A = ℕ} 153608 0)
+slice-aggregate-run-3 c = sym (length-replicate {A = ℕ} 307216 0)
 
 slice-aggregate-run-4 : tie.Need-slice-aggregate-run-4
 slice-aggregate-run-4 c = sym (length-replicate {A = ℕ} 131072 0)

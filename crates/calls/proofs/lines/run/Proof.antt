@@ -10,11 +10,11 @@ use Rattle.calls.proofs.lines.turn.Reads as turn-reads
 use Rattle.register_map.proofs.rebuild_begin.Reads as rebuild-begin-reads
 
 abbrev Inv-loop : tie.InvT-loop
-Inv-loop chunk₀ line₀ store₀ output₀ state₀ turns₀ at₀ end₀ sizes₀ chunk line store output state turns at end sizes =
-    (length chunk ≡ length chunk₀) × (length line ≡ length line₀) × (length store ≡ length store₀) × (length output ≡ length output₀)
+Inv-loop chunk₀ line₀ both₀ output₀ state₀ turns₀ at₀ end₀ sizes₀ chunk line both output state turns at end sizes =
+    (length chunk ≡ length chunk₀) × (length line ≡ length line₀) × (length both ≡ length both₀) × (length output ≡ length output₀)
 
 abbrev μ-loop : tie.MeasureT-loop
-μ-loop chunk₀ line₀ store₀ output₀ state₀ turns₀ at₀ end₀ sizes₀ chunk line store output state turns at end sizes = turns
+μ-loop chunk₀ line₀ both₀ output₀ state₀ turns₀ at₀ end₀ sizes₀ chunk line both output state turns at end sizes = turns
 
 rebuild-begin-requires : tie.Need-rebuild-begin-requires Inv-loop μ-loop
 rebuild-begin-requires c κs = search needs

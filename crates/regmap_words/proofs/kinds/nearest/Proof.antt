@@ -7,7 +7,7 @@ abbrev Inv-loop : tie.InvT-loop
 Inv-loop name best₀ most₀ k₀ t6 best most k = Unit {0}
 
 abbrev μ-loop : tie.MeasureT-loop
-μ-loop name best₀ most₀ k₀ t6 best most k = 22 - k
+μ-loop name best₀ most₀ k₀ t6 best most k = 23 - k
 
 loop-holds : tie.Need-loop-holds Inv-loop μ-loop
 loop-holds c = search needs

@@ -1,0 +1,2 @@
+-- A walk through two stores together.
+pub mod Walking
