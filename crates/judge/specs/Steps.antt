@@ -118,9 +118,9 @@ pub record Along (s : List ℕ) (cap x n y k : ℕ) : Type 0 where
 
 -- ---- the header
 
--- a header by itself, of a store of n bytes
-pub record HeaderOk (n : ℕ) (h : Header) : Type 0 where
-  pub edition : h .edition ≡ 1
+-- a header by itself, of a store of n bytes in an edition
+pub record HeaderOk (e n : ℕ) (h : Header) : Type 0 where
+  pub edition : h .edition ≡ e
   pub zero : h .zero ≡ 0
   pub least : 1 ≤ h .capacity
   pub sized : Sized n (h .capacity)

@@ -6,6 +6,7 @@
 use entries::subtree_digest;
 use key_order::below;
 use key_order::same;
+use slots::EDITION;
 use slots::Head;
 use slots::Header;
 ghost use mathlib.Core.Path.{_≡_};
@@ -13,7 +14,7 @@ ghost use mathlib.Core.Bool.{true, false};
 ghost use Prim.Native.Nat.{_≤_};
 ghost use lib.ListN.{length};
 ghost use Rattle.slots.specs.Layout.{HasSlot, Decides, slot, headOf, keyOf};
-ghost use Rattle.store.specs.Sound.{Sound};
+ghost use Rattle.store.specs.Sound.{SoundIn, Sound};
 ghost use Rattle.judge.specs.Rising.{Past};
 ghost use Rattle.judge.specs.Steps.{Sized, HeaderOk, NodeOk, boundOf, Met, WalkSays, joined, HasChain};
 
@@ -30,10 +31,10 @@ pub enum Trail {
     Bad,
 }
 
-fn header_ok(n: usize, h: Header) -> bool
-    ensures { λ b. ⌜ Decides b (HeaderOk n h) ⌝ }
+fn header_ok(edition: usize, n: usize, h: Header) -> bool
+    ensures { λ b. ⌜ Decides b (HeaderOk edition n h) ⌝ }
 {
-    if h.edition != 1 {
+    if h.edition != edition {
         return false;
     }
     if h.zero != 0 {
@@ -199,15 +200,15 @@ fn chain_ok(s: &[u8], cap: usize, x: usize, n: usize) -> bool
     more == 0
 }
 
-// Whether the bytes are a sound store.
-pub fn judge(s: &[u8]) -> bool
-    ensures { λ b. ⌜ Decides b (Sound (now (s .entry))) ⌝ }
+// Whether the bytes are a sound store of an edition.
+pub fn judge_in(s: &[u8], edition: usize) -> bool
+    ensures { λ b. ⌜ Decides b (SoundIn edition (now (s .entry))) ⌝ }
 {
     if s.len() < 8 {
         return false;
     }
     let h = slots::header_of(s);
-    if !header_ok(s.len(), h) {
+    if !header_ok(edition, s.len(), h) {
         return false;
     }
     let Trail::Got { last, left, blacks } = walk(s, h.capacity, MAX_HEIGHT, h.root, 0, h.live, true)
@@ -218,6 +219,13 @@ pub fn judge(s: &[u8]) -> bool
         return false;
     }
     chain_ok(s, h.capacity, h.free, h.capacity - h.live)
+}
+
+// Whether the bytes are a sound store.
+pub fn judge(s: &[u8]) -> bool
+    ensures { λ b. ⌜ Decides b (Sound (now (s .entry))) ⌝ }
+{
+    judge_in(s, EDITION)
 }
 
 // For C: whether the bytes are a sound store.

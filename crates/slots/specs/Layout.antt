@@ -8,7 +8,7 @@ use lib.ListN.{length, getD, take}
 use Rattle.runs.specs.Bits.{recut, octets, flag, bit}
 pub use Rattle.runs.specs.Runs.{part, CopiesWithin, Decides}
 unfoldable pub use Rattle.runs.specs.Runs.{zeros, padded, numberAt}
-pub use Rattle.slots.specs.Limits.{edition, maxCapacity, maxKey, maxValue, storeLength}
+pub use Rattle.slots.specs.Limits.{current, maxCapacity, maxKey, maxValue, storeLength}
 use Rattle.slots.specs.declared.Header.{Header}
 use Rattle.slots.specs.declared.Head.{Head}
 

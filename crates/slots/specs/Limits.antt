@@ -2,8 +2,9 @@
 use Prim.Native.Nat.{ℕ, _+_, _*_}
 pub use Rattle.answers.specs.Numbers.{maxCapacity, maxKey, maxValue}
 
-abbrev pub edition : ℕ
-edition = 1
+-- the edition that create writes and the calls read
+abbrev pub current : ℕ
+current = 1
 
 -- bytes in the header, and in a slot: its head, its key, its value and its digest
 abbrev pub headerLength : ℕ

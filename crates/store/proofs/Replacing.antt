@@ -15,7 +15,7 @@ use Rattle.key_order.specs.declared.Ordering.the-variants.{Less, Equal, Greater
 use Rattle.key_order.specs.Order.{Key, cmp, pick}
 use Rattle.key_order.proofs.Laws.{cmp-refl, cmp-eq}
 use Rattle.slots.specs.Bits.{Bytes}
-use Rattle.slots.specs.Layout.{header, Slot, slot, nodeSlot}
+use Rattle.slots.specs.Layout.{current, header, Slot, slot, nodeSlot}
 use Rattle.slots.specs.Setters as setters
 use Rattle.llrb.specs.Tree.{Value, Entry, Tree, nil, node, entries, size, get, insert, modify, withValue}
 use Rattle.llrb.specs.Delete.{freed}
@@ -38,7 +38,7 @@ use Rattle.store.proofs.Trees.{size-slots}
 use Rattle.store.proofs.Decoding.{decoded}
 use Rattle.store.proofs.Operating.{tree-lawful, get-mem, get-not, modified-lawful, deleted-lawful}
 use Rattle.store.proofs.Seats.{Seat, missing, seated, seat, found, Shows, laid-shows, tree-once, tree-within, sub-occurs, top-occurs}
-use Rattle.store.proofs.Encoding.{sub-short, encode-shows, encoded}
+use Rattle.store.proofs.Encoding.{current-fits, sub-short, encode-shows, encoded}
 use Rattle.store.proofs.Running.{edit-answer}
 
 -- ---- insert of a present key is modify
@@ -130,9 +130,9 @@ module _ (k : Key) (v : Value) {m : Model} (e : Entry) (g : Lawful m) (h : get k
       let n : size (modify k v (m .tree)) ≡ size (m .tree) =
       sym (size-slots (modify k v (m .tree))) ∙ ap length (modify-slots k v (tree-lawful g)) ∙ size-slots (m .tree) in
       let r = root-modify k v (m .tree) in
-      λ i. record { edition = 1; capacity = m .capacity; live = n i; root = r i; free = head (m .free); zero = 0 }
+      λ i. record { edition = current; capacity = m .capacity; live = n i; root = r i; free = head (m .free); zero = 0 }
 
-  pub replaced : {s s′ : List ℕ} → Represents s m → Shows s′ (modified k v m) → Replaced k v s s′
+  pub replaced : {s s′ : List ℕ} → Represents s m → Shows current s′ (modified k v m) → Replaced k v s s′
   unfolding modified
   replaced {s} {s′} a b =
       let w = laid-shows g (a .laid) in
@@ -151,7 +151,7 @@ module _ (k : Key) (v : Value) {m : Model} (e : Entry) (g : Lawful m) (h : get k
             b .digests i p c ∙ ap topDigest (modify-off-path k v i (m .tree) o) ∙ sym (w .digests i p c);
       }
     where
-      own-slot : Shows s m → Own k v e (m .tree) → slot s′ (e .slot) ≡ setters.withValue v (slot s (e .slot))
+      own-slot : Shows current s m → Own k v e (m .tree) → slot s′ (e .slot) ≡ setters.withValue v (slot s (e .slot))
       own-slot w y =
           let c = tree-within g (e .slot) (omega (arith, sub-occurs (e .slot) (y .before), top-occurs (y .colour) e (y .lower) (y .upper))) in
           let u : slot s (e .slot) ≡ nodeSlot (y .colour) (e .key) (e .value) (root (y .lower)) (root (y .upper)) =
@@ -179,10 +179,10 @@ module _ (k : Key) (v : Value) {m : Model} (e : Entry) (g : Lawful m) (h : get k
 
   -- insert and modify alike: 0, and only that value and digests on its search path change
   pub insert-replaces : {s : List ℕ} → Represents s m → (answerOf (Insert k v) s .number ≡ 0) × Replaced k v s (answerOf (Insert k v) s .store)
-  insert-replaces {s} a = rw (edit-answer (Insert k v) a, insert-done) (refl, replaced a (encode-shows g′))
+  insert-replaces {s} a = rw (edit-answer (Insert k v) a, insert-done) (refl, replaced a (encode-shows g′ current current-fits))
 
   pub modify-replaces : {s : List ℕ} → Represents s m → (answerOf (Modify k v) s .number ≡ 0) × Replaced k v s (answerOf (Modify k v) s .store)
-  modify-replaces {s} a = rw (edit-answer (Modify k v) a, modify-done) (refl, replaced a (encode-shows g′))
+  modify-replaces {s} a = rw (edit-answer (Modify k v) a, modify-done) (refl, replaced a (encode-shows g′ current current-fits))
 
 -- ---- the value already there
 

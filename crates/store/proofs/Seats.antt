@@ -17,7 +17,7 @@ use Rattle.store.specs.Counts.{is, occurs}
 use Rattle.store.specs.Deciding.{le?}
 use Rattle.store.specs.Counting.{is-self, is-other, numbers-in, numbers-low, numbers-high, numbers-most}
 use Rattle.store.specs.Model.{Model, slotsOf, head}
-use Rattle.store.specs.Sound.{headerOf, Nodes, Digests, Chain, Laid, Lawful}
+use Rattle.store.specs.Sound.{headerIn, Nodes, Digests, Chain, LaidIn, Lawful}
 use Rattle.store.specs.Encode.{inChain, slotAt, digestAt}
 use Rattle.store.proofs.Trees.{slots-node}
 use Rattle.store.proofs.Decoding.{once-sum}
@@ -98,9 +98,9 @@ found {c} {e} {l} {r} o (on-right {c = d} {e = f} {l = m} {r = n} p) =
 
 -- ---- a store seen slot by slot
 
-pub record Shows (s : List ℕ) (m : Model) : Type 0 where
+pub record Shows (edition : ℕ) (s : List ℕ) (m : Model) : Type 0 where
   pub len : length s ≡ storeLength (m .capacity)
-  pub head : header s ≡ headerOf m
+  pub head : header s ≡ headerIn edition m
   pub slots : (x : ℕ) → 1 ≤ x → x ≤ m .capacity → slot s x ≡ slotAt m x
   pub digests : (x : ℕ) → 1 ≤ x → x ≤ m .capacity → digestOf s x ≡ digestAt m x
 
@@ -144,8 +144,8 @@ module _ {m : Model} (g : Lawful m) where
   pub chain-once : (x : ℕ) → occurs x (m .free) ≤ 1
   chain-once x = omega (arith, once-sum g x, numbers-most x (m .capacity))
 
-module _ {s : List ℕ} {m : Model} (g : Lawful m) where
-  pub laid-shows : Laid s m → Shows s m
+module _ {d : ℕ} {s : List ℕ} {m : Model} (g : Lawful m) where
+  pub laid-shows : LaidIn d s m → Shows d s m
   laid-shows a = record { len = a .len; head = a .header; slots = λ x p q. slots-at x p q (seat x (m .tree)); digests = λ x p q. digests-at x p q (seat x (m .tree)) }
     where
       chained : (x : ℕ) → 1 ≤ x → x ≤ m .capacity → occurs x (slotsOf (m .tree)) ≡ 0 → Linked s x (m .free)
@@ -159,7 +159,7 @@ module _ {s : List ℕ} {m : Model} (g : Lawful m) where
       digests-at x p q (missing z h) = rw h (chained x p q z .blank)
       digests-at x p q (seated c e l r h k u) = rw h (ap (digestOf s) (sym k) ∙ sub-digests s u (a .digests) .0)
 
-  pub shows-laid : Shows s m → Laid s m
+  pub shows-laid : Shows d s m → LaidIn d s m
   shows-laid a =
       record { len = a .len; header = a .head; nodes = nodes-of (m .tree) whole; digests = digests-of (m .tree) whole; chain = chain-of (m .free) (λ x. chain-once g x) (λ x p. (in-chain x p, blank x p)) }
     where

@@ -8,7 +8,7 @@ use lib.Dec.{ltb, leb, eqb}
 use lib.ListN.{length}
 use Rattle.answers.specs.Numbers.{maxMessage}
 use Rattle.sha256.specs.Hashed.{hashed}
-use Rattle.slots.specs.Layout.{storeLength}
+use Rattle.slots.specs.Layout.{current, storeLength}
 use Rattle.hash_tree.specs.HashTree.{HashTree}
 use Rattle.hash_tree.specs.Written.{write, maxDepth}
 use Rattle.hash_tree.specs.Parse.{Parsed, Got, Bad, parse}
@@ -31,7 +31,7 @@ use Rattle.store.proofs.Decoding.{on-sound, on-unsound, sound-decodes}
 -- 1 comes first, and is given exactly for a store that is not sound
 by-soundness : {A : Type 0} (s : List ℕ) (o : Model → Outcome A) (number : Outcome A → ℕ) (rows : List Row) → number (refused NotSound) ≡ 1 → applies NotSound rows ≡ false
     → number (o (decode s)) ≡ firstIn rows → number (onSound s o (refused NotSound)) ≡ firstIn (notSound s ∷ rows)
-by-soundness s o number rows one free h = at (represents? s (decode s))
+by-soundness s o number rows one free h = at (represents? current s (decode s))
   where
     at : Dec (Represents s (decode s)) → number (onSound s o (refused NotSound)) ≡ firstIn (notSound s ∷ rows)
     at (yes a) = rw (on-sound a o (refused NotSound), on-sound a (λ m. false) true) h

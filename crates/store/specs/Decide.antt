@@ -10,13 +10,13 @@ use Rattle.key_order.specs.declared.Ordering.{Ordering}
 use Rattle.key_order.specs.declared.Ordering.the-variants.{Less, Equal, Greater}
 use Rattle.key_order.specs.Order.{Key, cmp}
 use Rattle.slots.specs.declared.Header.{Header}
-use Rattle.slots.specs.Layout.{storeLength, header, Slot}
+use Rattle.slots.specs.Layout.{current, storeLength, header, Slot}
 use Rattle.llrb.specs.Tree.{Entry, Tree, nil, node, isRed, entries}
 use Rattle.llrb.specs.Sorted.{Above, Sorted}
 use Rattle.llrb.specs.Shape.{RedsApart, LeansLeft, Blacks, SameBlacks}
 use Rattle.store.specs.Counts.{numbersTo}
 use Rattle.store.specs.Model.{Model, named, root}
-use Rattle.store.specs.Sound.{headerOf, Nodes, Digests, Chain, Laid, Short, Lawful, Represents}
+use Rattle.store.specs.Sound.{headerIn, Nodes, Digests, Chain, LaidIn, Short, Lawful, RepresentsIn}
 use Rattle.store.specs.Decode.{decode}
 use Rattle.store.specs.Deciding.{told, _&_, three, nat?, le?, bytes?, bool?}
 use Rattle.store.specs.Counting.{same?}
@@ -101,10 +101,10 @@ chain? : (s : List ℕ) (free : List ℕ) → Dec (Chain s free)
 chain? s [] = yes tt
 chain? s (x ∷ free) = three (slot? _ _) (bytes? _ _) (chain? s free)
 
-laid? : (s : List ℕ) (m : Model) → Dec (Laid s m)
-laid? s m =
+laid? : (e : ℕ) (s : List ℕ) (m : Model) → Dec (LaidIn e s m)
+laid? e s m =
     told
-    (nat? (length s) (storeLength (m .capacity)) & header? (header s) (headerOf m) & nodes? s (m .tree) & digests? s (m .tree) & chain? s (m .free))
+    (nat? (length s) (storeLength (m .capacity)) & header? (header s) (headerIn e m) & nodes? s (m .tree) & digests? s (m .tree) & chain? s (m .free))
     (λ h. record { len = h .0; header = h .1 .0; nodes = h .1 .1 .0; digests = h .1 .1 .1 .0; chain = h .1 .1 .1 .1 })
     (λ a. (a .len, (a .header, (a .nodes, (a .digests, a .chain)))))
 
@@ -180,8 +180,8 @@ lawful? m =
     })
     (λ a. (a .least, (a .most, (a .short, (a .ordered, (a .rootBlack, (a .redsApart, (a .leansLeft, (a .sameBlacks, a .once)))))))))
 
-pub represents? : (s : List ℕ) (m : Model) → Dec (Represents s m)
-represents? s m = told (laid? s m & lawful? m) (λ h. record { laid = h .0; lawful = h .1 }) (λ a. (a .laid, a .lawful))
+pub represents? : (e : ℕ) (s : List ℕ) (m : Model) → Dec (RepresentsIn e s m)
+represents? e s m = told (laid? e s m & lawful? m) (λ h. record { laid = h .0; lawful = h .1 }) (λ a. (a .laid, a .lawful))
 
 -- ---- calls
 
@@ -189,6 +189,9 @@ abbrev pub held : {A P : Type 0} → Dec P → A → A → A
 held (yes h) a z = a
 held (no n) a z = z
 
--- f of the model that s holds; z where s is not sound
-unfoldable pub onSound : {A : Type 0} → List ℕ → (Model → A) → A → A
-onSound s f z = held (represents? s (decode s)) (f (decode s)) z
+-- f of the model that s holds in an edition; z where s is not sound in it
+unfoldable pub onSoundIn : {A : Type 0} → (edition : ℕ) → List ℕ → (Model → A) → A → A
+onSoundIn e s f z = held (represents? e s (decode s)) (f (decode s)) z
+
+abbrev pub onSound : {A : Type 0} → List ℕ → (Model → A) → A → A
+onSound s f z = onSoundIn current s f z

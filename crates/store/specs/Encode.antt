@@ -4,13 +4,13 @@ use mathlib.Core.List.{List, [], _∷_}
 use mathlib.Core.Option.{Option, none, some}
 use Prim.Native.Nat.{ℕ}
 use lib.Dec.{eqb}
-use Rattle.slots.specs.Layout.{Slot, nodeSlot, freeSlot, zeros}
+use Rattle.slots.specs.Layout.{current, Slot, nodeSlot, freeSlot, zeros}
 use Rattle.slots.specs.Setters.{bytesOf}
 use Rattle.llrb.specs.Tree.{Tree, nil, node}
 use Rattle.llrb.specs.Digests.{subtreeDigest}
 use Rattle.llrb.specs.Path.{subtreeAt}
 use Rattle.store.specs.Model.{Model, root, head}
-use Rattle.store.specs.Sound.{headerOf}
+use Rattle.store.specs.Sound.{headerIn}
 
 -- slot x, if it is in the chain
 abbrev pub inChain : ℕ → List ℕ → Slot
@@ -33,5 +33,8 @@ slotAt m x = topSlot (subtreeAt x (m .tree)) (inChain x (m .free))
 abbrev pub digestAt : Model → ℕ → List ℕ
 digestAt m x = topDigest (subtreeAt x (m .tree))
 
-unfoldable pub encode : Model → List ℕ
-encode m = bytesOf (headerOf m) (m .capacity) (slotAt m) (digestAt m)
+unfoldable pub encodeIn : (edition : ℕ) → Model → List ℕ
+encodeIn e m = bytesOf (headerIn e m) (m .capacity) (slotAt m) (digestAt m)
+
+abbrev pub encode : Model → List ℕ
+encode m = encodeIn current m

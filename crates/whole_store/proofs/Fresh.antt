@@ -10,7 +10,7 @@ use lib.ListN.{length}
 use borrow.Author.Tests.{eqb-true, eqb-false, eq-eqb, ne-eqb}
 use Rattle.slots.specs.declared.Header.{Header}
 use Rattle.slots.specs.Bits.{Bytes}
-use Rattle.slots.specs.Layout.{storeLength, HasSlot, HeaderFits, header, slot, digestOf, freeSlot, zeros}
+use Rattle.slots.specs.Layout.{current, storeLength, HasSlot, HeaderFits, header, slot, digestOf, freeSlot, zeros}
 use Rattle.slots.specs.Setters.{setHeader, clearSlot, Wrote, Headed}
 use Rattle.slots.proofs.Writing.{wrote-free, headed}
 use Rattle.llrb.specs.Tree.{size}
@@ -38,7 +38,7 @@ next-lt cap x p = go (eqb x cap) refl
     go false e = omega (arith, next-on cap x (eqb-false x cap e))
 
 abbrev pub freshHeader : ℕ → Header
-freshHeader cap = record { edition = 1; capacity = cap; live = 0; root = 0; free = 1; zero = 0 }
+freshHeader cap = record { edition = current; capacity = cap; live = 0; root = 0; free = 1; zero = 0 }
 
 -- ---- the loop over the slots
 
@@ -111,7 +111,7 @@ module _ (cap : ℕ) (least : 1 ≤ cap) (most : cap ≤ 1024) {s s′ : List �
       let f = first cap least in
       record {
         len = h .len ∙ a .len;
-        header = h .here ∙ (λ i. record { edition = 1; capacity = cap; live = 0; root = 0; free = sym f i; zero = 0 });
+        header = h .here ∙ (λ i. record { edition = current; capacity = cap; live = 0; root = 0; free = sym f i; zero = 0 });
         nodes = tt;
         digests = tt;
         chain = chain 1 cap (omega arith) (omega arith);
