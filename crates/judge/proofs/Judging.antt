@@ -13,7 +13,7 @@ use Rattle.llrb.proofs.Height.{height-20}
 use Rattle.store.specs.Counts.{occurs}
 use Rattle.store.specs.Counting.{is-self}
 use Rattle.store.specs.Model.{Model, slotsOf, root}
-use Rattle.store.specs.Sound.{Nodes, Short, SoundIn}
+use Rattle.store.specs.Sound.{Nodes, Marks, Short, SoundIn}
 use Rattle.store.proofs.Trees.{slots-node}
 use Rattle.store.proofs.Decoding.{live-and-free}
 use Rattle.store.proofs.Operating.{tree-lawful}
@@ -47,6 +47,9 @@ module _ {d : ℕ} (s : List ℕ) (h : SoundIn d s) where
   cap-is : header s .capacity ≡ m .capacity
   cap-is = ap (λ (z : Header). z .capacity) (h .1 .laid .header)
 
+  edition-is : header s .edition ≡ d
+  edition-is = ap (λ (z : Header). z .edition) (h .1 .laid .header)
+
   live-is : header s .live ≡ size (m .tree)
   live-is = ap (λ (z : Header). z .live) (h .1 .laid .header)
 
@@ -59,7 +62,7 @@ module _ {d : ℕ} (s : List ℕ) (h : SoundIn d s) where
   pub header-of : HeaderOk d (length s) (header s)
   header-of =
       record {
-        edition = ap (λ (z : Header). z .edition) (h .1 .laid .header);
+        edition = edition-is;
         zero = ap (λ (z : Header). z .zero) (h .1 .laid .header);
         least = omega (arith, cap-is, h .1 .lawful .least);
         sized = record { most = omega (arith, cap-is, h .1 .lawful .most); len = omega (arith, cap-is, h .1 .laid .len) };
@@ -71,7 +74,7 @@ module _ {d : ℕ} (s : List ℕ) (h : SoundIn d s) where
       record {
         within = within-of (header s .capacity) (m .tree) (λ x p. subst (λ (c : ℕ). (1 ≤ x) × (x ≤ c)) (sym cap-is) (tree-within (h .1 .lawful) x p));
         nodes = h .1 .laid .nodes;
-        digests = h .1 .laid .digests;
+        marks = subst (λ (e : ℕ). Marks e s (m .tree)) (sym edition-is) (h .1 .laid .marks);
         redsApart = h .1 .lawful .redsApart;
         leansLeft = h .1 .lawful .leansLeft;
       }
@@ -138,7 +141,7 @@ sound-of s o {q} {n} {b} x z k =
               len = o .sized .len;
               header = λ i. record { edition = o .edition i; capacity = c; live = sym e i; root = sym ex i; free = sym ek i; zero = o .zero i };
               nodes = g .nodes;
-              digests = g .digests;
+              marks = subst (λ (e : ℕ). Marks e s t) (o .edition) (g .marks);
               chain = k .chain;
             };
         lawful =

@@ -3,6 +3,7 @@
 // One walk over the tree, in order, and one over the free chain; each digest is worked out once, from the children's stored ones.
 // No slot is marked: keys that rise strictly name a slot once, a chain that ends names a slot once, live bits keep the two apart,
 // and the counts say that nothing is left over. Links that form a cycle break the order of keys at the first slot met again.
+use entries::linked_count;
 use entries::subtree_digest;
 use key_order::below;
 use key_order::same;
@@ -13,7 +14,8 @@ ghost use mathlib.Core.Path.{_≡_};
 ghost use mathlib.Core.Bool.{true, false};
 ghost use Prim.Native.Nat.{_≤_};
 ghost use lib.ListN.{length};
-ghost use Rattle.slots.specs.Layout.{HasSlot, Decides, slot, headOf, keyOf};
+ghost use Rattle.slots.specs.Layout.{HasSlot, Decides, countIn, header, slot, countOf, headOf, keyOf};
+ghost use Rattle.entries.specs.Digests.{LinksIn, linkedCount};
 ghost use Rattle.store.specs.Sound.{SoundIn, Sound};
 ghost use Rattle.judge.specs.Rising.{Past};
 ghost use Rattle.judge.specs.Steps.{Sized, HeaderOk, NodeOk, boundOf, Met, WalkSays, joined, HasChain};
@@ -65,11 +67,24 @@ fn colour_ok(red: bool, black: bool) -> bool
     !red
 }
 
+// Whether the count `n` of slot `i` is what its links count; edition 1 has zero bits there.
+fn count_ok(s: &[u8], i: usize, n: usize) -> bool
+    requires { ⌜ LinksIn (now s) i ⌝ }
+    requires { ⌜ n ≡ countOf (now s) i ⌝ }
+    ensures { λ b. ⌜ Decides b (countOf (now (s .entry)) i ≡ countIn (header (now (s .entry)) .edition) (linkedCount (now (s .entry)) i)) ⌝ }
+{
+    let edition = slots::header_of(s).edition;
+    if edition < 2 {
+        return n == 0;
+    }
+    n == linked_count(s, i)
+}
+
 // Whether slot `i`, whose head is `h`, holds a node. What is cheap is tested first.
 fn node_ok(s: &[u8], cap: usize, i: usize, h: Head, black: bool) -> bool
     requires { ⌜ Sized (length (now s)) cap ⌝ }
     requires { ⌜ HasSlot (length (now s)) i ⌝ }
-    requires { ⌜ h ≡ headOf (slot (now s) i) ⌝ }
+    requires { ⌜ h ≡ headOf (slot (now s) i) (countOf (now s) i) ⌝ }
     ensures { λ b. ⌜ Decides b (NodeOk (now (s .entry)) cap i black) ⌝ }
 {
     if !colour_ok(h.red, black) {
@@ -82,6 +97,9 @@ fn node_ok(s: &[u8], cap: usize, i: usize, h: Head, black: bool) -> bool
         return false;
     }
     if !slot_tests::is_entry(s, i, h) {
+        return false;
+    }
+    if !count_ok(s, i, h.count) {
         return false;
     }
     let d = subtree_digest(s, i);

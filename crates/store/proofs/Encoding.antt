@@ -2,23 +2,24 @@
 use mathlib.Core.Path.{_≡_, sym, subst, _∙_}
 use mathlib.Core.Bool.{Bool, true, false, cond}
 use mathlib.Core.List.{List, [], _∷_, _++_}
-use Prim.Native.Nat.{ℕ, zero, _≤_, _<_}
+use Prim.Native.Nat.{ℕ, zero, suc, _≤_, _<_}
 use native.Mathlib.Omega.{arith}
 use lib.Dec.{eqb, lit<}
 use lib.ListN.{length}
 use Rattle.slots.specs.Bits.{Bytes}
-use Rattle.slots.specs.Layout.{current, HeaderFits, SlotFits, slot, freeSlot}
+use Rattle.slots.specs.Layout.{current, countIn, HeaderFits, SlotFits, slot, freeSlot}
 use Rattle.slots.proofs.Writing.{length-zeros, node-fits, free-fits}
-use Rattle.slots.proofs.Whole.{length-bytesOf, header-bytesOf, slot-bytesOf, digest-bytesOf, is-bytesOf}
+use Rattle.slots.proofs.Whole.{MarkFits, length-bytesOf, header-bytesOf, slot-bytesOf, mark-bytesOf, is-bytesOf}
 use Rattle.hash_tree.proofs.DigestLaws.{emptyHash-length, forkHash-length, labeledHash-length}
-use Rattle.llrb.specs.Tree.{Entry, Tree, nil, node, entries}
+use Rattle.llrb.specs.Tree.{Entry, Tree, nil, node, entries, size}
 use Rattle.llrb.specs.Digests.{subtreeDigest}
+use Rattle.llrb.proofs.Height.{size-node}
 use Rattle.llrb.specs.Path.{Sub, whole, on-left, on-right}
 use Rattle.store.specs.Counts.{occurs}
 use Rattle.store.specs.Counting.{is-self}
 use Rattle.store.specs.Model.{Model, root, head}
 use Rattle.store.specs.Sound.{headerIn, Short, Lawful, RepresentsIn, SoundIn}
-use Rattle.store.specs.Encode.{inChain, slotAt, digestAt, encodeIn}
+use Rattle.store.specs.Encode.{inChain, slotAt, markAt, encodeIn}
 use Rattle.store.specs.Decode.{decode}
 use Rattle.store.proofs.Decoding.{live-and-free, decoded, sound-decodes}
 use Rattle.store.proofs.Seats.{sub-left, sub-right, sub-occurs, top-occurs, Seat, missing, seated, seat, Shows, laid-shows, shows-laid, tree-within, chain-within}
@@ -43,6 +44,18 @@ short-left (e ∷ L) M a = (a .0, a .1, short-left L M (a .2))
 pub short-right : (L M : List Entry) → Short (L ++ M) → Short M
 short-right [] M a = a
 short-right (e ∷ L) M a = short-right L M (a .2)
+
+-- a count fits 11 bits
+count-most : (d n : ℕ) → n < 2048 → countIn d n < 2048
+count-most zero n p = lit< tt
+count-most (suc zero) n p = lit< tt
+count-most (suc (suc d)) n p = p
+
+-- a subtree has no more entries
+pub sub-size : {u t : Tree} → Sub u t → size u ≤ size t
+sub-size whole = omega arith
+sub-size (on-left {c = c} {e = e} {l = l} {r = r} p) = omega (arith, sub-size p, size-node c e l r)
+sub-size (on-right {c = c} {e = e} {l = l} {r = r} p) = omega (arith, sub-size p, size-node c e l r)
 
 -- the entries of a subtree are short too
 pub sub-short : {u t : Tree} → Sub u t → Short (entries t) → Short (entries u)
@@ -90,12 +103,13 @@ module _ {m : Model} (g : Lawful m) where
           let a = short-right (entries l) (e ∷ entries r) (sub-short u (g .short)) in
           rw h (node-fits c (e .key) (e .value) (root l) (root r) (a .0) (a .1) (root-small l (sub-left u)) (root-small r (sub-right u)))
 
-  digest-fits : (x : ℕ) → length (digestAt m x) ≡ 32
-  digest-fits x = at (seat x (m .tree))
+  mark-fits : (d x : ℕ) → MarkFits (markAt d m x)
+  mark-fits d x = at (seat x (m .tree))
     where
-      at : Seat x (m .tree) → length (digestAt m x) ≡ 32
-      at (missing z h) = rw h (length-zeros 32)
-      at (seated c e l r h k u) = rw h (subtree-digest-length (node c e l r))
+      at : Seat x (m .tree) → MarkFits (markAt d m x)
+      at (missing z h) = rw h (record { count = lit< tt; digest = length-zeros 32 })
+      at (seated c e l r h k u) =
+          rw h (record { count = count-most d (size (node c e l r)) (omega (arith, sub-size u, live-and-free g, g .most)); digest = subtree-digest-length (node c e l r) })
 
   -- ---- every lawful model has a store, in any edition that 4 bits can say
 
@@ -103,10 +117,10 @@ module _ {m : Model} (g : Lawful m) where
   unfolding encodeIn
   encode-shows e p =
       record {
-        len = length-bytesOf (headerIn e m) (m .capacity) (slotAt m) (digestAt m);
-        head = header-bytesOf (headerIn e m) (m .capacity) (slotAt m) (digestAt m) (header-fits e p);
-        slots = slot-bytesOf (headerIn e m) (m .capacity) (slotAt m) (digestAt m) few (λ x p q. slot-fits x) (λ x p q. digest-fits x);
-        digests = digest-bytesOf (headerIn e m) (m .capacity) (slotAt m) (digestAt m) few (λ x p q. slot-fits x) (λ x p q. digest-fits x);
+        len = length-bytesOf (headerIn e m) (m .capacity) (slotAt m) (markAt e m);
+        head = header-bytesOf (headerIn e m) (m .capacity) (slotAt m) (markAt e m) (header-fits e p);
+        slots = slot-bytesOf (headerIn e m) (m .capacity) (slotAt m) (markAt e m) few (λ x p q. slot-fits x) (λ x p q. mark-fits e x);
+        marks = mark-bytesOf (headerIn e m) (m .capacity) (slotAt m) (markAt e m) few (λ x p q. slot-fits x) (λ x p q. mark-fits e x);
       }
 
   pub encode-holds : (e : ℕ) → e < 16 → RepresentsIn e (encodeIn e m) m
@@ -124,7 +138,7 @@ pub encoded : {e : ℕ} {s : List ℕ} {m : Model} → Bytes s → RepresentsIn 
 unfolding encodeIn
 encoded {e} {s} {m} b a =
     let w = laid-shows (a .lawful) (a .laid) in
-    is-bytesOf (m .capacity) s (few (a .lawful)) b (w .len) (headerIn e m) (slotAt m) (digestAt m) (w .head) (w .slots) (w .digests)
+    is-bytesOf (m .capacity) s (few (a .lawful)) b (w .len) (headerIn e m) (slotAt m) (markAt e m) (w .head) (w .slots) (w .marks)
 
 pub bytes-same : {e : ℕ} {s t : List ℕ} {m : Model} → Bytes s → Bytes t → RepresentsIn e s m → RepresentsIn e t m → s ≡ t
 bytes-same bs bt a b = encoded bs a ∙ sym (encoded bt b)
