@@ -1,8 +1,9 @@
--- The digest of a subtree by its slot: the four cases, that it is right where the stored digests of the children are, and that it is 32 bytes.
+-- The digest and the count of a subtree by its slot: the four cases, that they are right where those stored of the children are, and that a digest is 32 bytes.
 use mathlib.Core.Path.{_≡_, refl, sym, ap, _∙_}
 use mathlib.Core.Bool.{Bool, true, false}
 use mathlib.Core.List.{List}
-use Prim.Native.Nat.{ℕ}
+use Prim.Native.Nat.{ℕ, zero, suc, _+_}
+use native.Mathlib.Omega.{arith}
 use lib.Dec.{eqb}
 use lib.ListN.{length}
 use borrow.Author.Tests.{eq-eqb, ne-eqb}
@@ -10,10 +11,11 @@ use Rattle.sha256.proofs.Length.{sha256-bytes}
 use Rattle.hash_tree.specs.HashTree.{Digest, forkHash, labeledHash, leafHash}
 use Rattle.hash_tree.proofs.DigestLaws.{forkHash-length, labeledHash-length}
 use Rattle.slots.specs.Bits.{Bytes}
-use Rattle.slots.specs.Layout.{slot, keyOf, valueOf, digestOf}
-use Rattle.llrb.specs.Tree.{Entry, Tree, nil, node}
+use Rattle.slots.specs.Layout.{countIn, slot, keyOf, valueOf, countOf, digestOf}
+use Rattle.llrb.specs.Tree.{Entry, Tree, nil, node, size}
 use Rattle.llrb.specs.Digests.{dataDigest, isNil, nodeDigest, subtreeDigest}
-use Rattle.entries.specs.Digests.{valueDigest, dataDigestIn, forked, computeSubtreeHash}
+use Rattle.llrb.proofs.Height.{size-node}
+use Rattle.entries.specs.Digests.{valueDigest, dataDigestIn, forked, computeSubtreeHash, countBelow, linkedCount}
 
 -- ---- the four cases, in the order of the code
 
@@ -54,6 +56,33 @@ module _ (s : List ℕ) (h : ℕ) (c : Bool) (e : Entry) (l r : Tree) (ek : keyO
       (λ i. nodeDigest (nl i) (nr i) (digestOf s (slot s h .left)) (labeledHash (ek i) (leafHash (ev i))) (digestOf s (slot s h .right)))
       ∙ same-digests l r (digestOf s (slot s h .left)) (dataDigest e) (digestOf s (slot s h .right)) dl dr
       ∙ sym (digest-node c e l r)
+
+-- ---- it is the count of the subtree
+
+-- the same of counts, in any edition
+module _ (d : ℕ) (s : List ℕ) where
+  below-is : (l : ℕ) (t : Tree) → eqb l 0 ≡ isNil t → (isNil t ≡ false → countOf s l ≡ size t) → countBelow s l ≡ size t
+  below-is l nil n f = unfold size in rw n
+  below-is l (node c e t u) n f = rw n (f refl)
+
+  pub count-right : (h : ℕ) (c : Bool) (e : Entry) (l r : Tree) → eqb (slot s h .left) 0 ≡ isNil l → eqb (slot s h .right) 0 ≡ isNil r
+      → (isNil l ≡ false → countOf s (slot s h .left) ≡ countIn d (size l)) → (isNil r ≡ false → countOf s (slot s h .right) ≡ countIn d (size r))
+      → countIn d (linkedCount s h) ≡ countIn d (size (node c e l r))
+  count-right h c e l r nl nr dl dr = go d dl dr
+    where
+      go : (d : ℕ) → (isNil l ≡ false → countOf s (slot s h .left) ≡ countIn d (size l)) → (isNil r ≡ false → countOf s (slot s h .right) ≡ countIn d (size r))
+          → countIn d (linkedCount s h) ≡ countIn d (size (node c e l r))
+      go zero x y = refl
+      go (suc zero) x y = refl
+      go (suc (suc d)) x y =
+          let n : linkedCount s h ≡ 1 + (countBelow s (slot s h .left) + countBelow s (slot s h .right)) = unfold linkedCount in refl in
+          omega (arith, n, below-is (slot s h .left) l nl x, below-is (slot s h .right) r nr y, size-node c e l r)
+
+pub below-none : (s : List ℕ) (l : ℕ) → l ≡ 0 → 0 ≡ countBelow s l
+below-none s l e = rw (eq-eqb l 0 e)
+
+pub below-some : (s : List ℕ) (l : ℕ) → (l ≡ 0 → ⊥) → {n : ℕ} → n ≡ countOf s l → n ≡ countBelow s l
+below-some s l ne e = rw (ne-eqb l 0 ne) e
 
 -- ---- 32 bytes
 

@@ -1,11 +1,13 @@
--- The digests of the entry in a slot (document 01, "Digests"), from the slot's own bytes and the stored digests of the slots that its links name.
+-- The mark of the entry in a slot: its digests (document 01, "Digests"), from the slot's own bytes and the stored digests of the slots that its links
+-- name; and the count of its subtree, from their stored counts (document 02, Q-5).
 use mathlib.Core.Path.{_≡_}
+use mathlib.Core.Bool.{cond}
 use mathlib.Core.List.{List}
-use Prim.Native.Nat.{ℕ, _≤_}
+use Prim.Native.Nat.{ℕ, _+_, _≤_}
 use lib.Dec.{eqb}
 use lib.ListN.{length}
 use Rattle.hash_tree.specs.HashTree.{Digest, labeledHash, leafHash}
-use Rattle.slots.specs.Layout.{HasSlot, slot, keyOf, valueOf, digestOf}
+use Rattle.slots.specs.Layout.{HasSlot, slot, keyOf, valueOf, countOf, digestOf}
 use Rattle.llrb.specs.Digests.{nodeDigest}
 
 -- Leaf(value)
@@ -23,6 +25,14 @@ forked s l r d = nodeDigest (eqb l 0) (eqb r 0) (digestOf s l) d (digestOf s r)
 -- `compute_subtree_hash`: of the subtree whose top is in slot i
 unfoldable pub computeSubtreeHash : List ℕ → ℕ → Digest
 computeSubtreeHash s i = forked s (slot s i .left) (slot s i .right) (dataDigestIn s i)
+
+-- the stored count of the slot that a link names; a link 0 names nothing
+abbrev pub countBelow : List ℕ → ℕ → ℕ
+countBelow s l = cond (eqb l 0) 0 (countOf s l)
+
+-- the entry itself, and what its links count
+unfoldable pub linkedCount : List ℕ → ℕ → ℕ
+linkedCount s i = 1 + (countBelow s (slot s i .left) + countBelow s (slot s i .right))
 
 -- a link names a slot of the store, or none
 abbrev pub Link : List ℕ → ℕ → Type 0

@@ -1,10 +1,10 @@
-// The entry in a slot: its key compared, and its digests, which the tree, the judge and the witnesses all work out here.
+// The entry in a slot: its key compared, and its digests and count, which the tree, the judge and the witnesses all work out here.
 ghost use mathlib.Core.Path.{_≡_};
-ghost use Prim.Native.Nat.{_≤_};
+ghost use Prim.Native.Nat.{_≤_, _<_};
 ghost use lib.ListN.{length};
 ghost use Rattle.key_order.specs.Order.{cmp};
 ghost use Rattle.slots.specs.Layout.{HasSlot, slot, keyOf};
-ghost use Rattle.entries.specs.Digests.{Link, LinksIn, valueDigest, dataDigestIn, forked, computeSubtreeHash};
+ghost use Rattle.entries.specs.Digests.{Link, LinksIn, valueDigest, dataDigestIn, forked, computeSubtreeHash, countBelow, linkedCount};
 
 // How `key` stands to the key in slot `i`.
 pub fn compare_key(s: &[u8], i: usize, key: &[u8]) -> key_order::Ordering
@@ -61,4 +61,23 @@ pub fn subtree_digest(s: &[u8], i: usize) -> [u8; 32]
 {
     let d = data_digest(s, i);
     fork_with(s, slots::left(s, i), slots::right(s, i), d)
+}
+
+// The stored count of the slot that a link names; 0 names none.
+fn count_below(s: &[u8], link: usize) -> usize
+    requires { ⌜ Link (now s) link ⌝ }
+    ensures { λ r. ⌜ (r ≡ countBelow (now (s .entry)) link) × (r < 2048) ⌝ }
+{
+    if link == 0 {
+        return 0;
+    }
+    slots::count(s, link)
+}
+
+// The entry itself, and the stored counts of its children.
+pub fn linked_count(s: &[u8], i: usize) -> usize
+    requires { ⌜ LinksIn (now s) i ⌝ }
+    ensures { λ r. ⌜ r ≡ linkedCount (now (s .entry)) i ⌝ }
+{
+    1 + (count_below(s, slots::left(s, i)) + count_below(s, slots::right(s, i)))
 }

@@ -9,7 +9,7 @@ use Rattle.key_order.specs.Order.{cmp, isPrefixOf}
 use Rattle.slots.specs.declared.Header.{Header}
 use Rattle.slots.specs.Bits.{joined, fields, recut}
 use Rattle.slots.specs.Layout.{header, headAt, keyAt, valueAt, digestAt, place, zeros}
-use Rattle.slots.specs.Setters.{putRoom, setHeader, setSlot, setDigest, withSlots, bytesOf}
+use Rattle.slots.specs.Setters.{putRoom, setHeader, setSlotAs, setDigest, withSlots, bytesOf}
 use Rattle.hash_tree.specs.HashTree.{HashTree, Empty, Fork, Labeled, Leaf, Pruned, labeledHash, leafHash}
 use Rattle.hash_tree.specs.Written.{piece, write}
 use Rattle.llrb.specs.Tree.{nil, balance, get, insertGo, insert, size, entries}
@@ -23,7 +23,7 @@ use Rattle.witness_trees.specs.Witness.{lowerBound, upperBound, rightPrefixNeig
 use Rattle.store.specs.Numbers.{Outcome, done}
 use Rattle.store.specs.Model.{Model, head, fresh, inserted, deleted}
 use Rattle.store.specs.Sound.{Represents}
-use Rattle.store.specs.Encode.{encode}
+use Rattle.store.specs.Encode.{encodeIn, encode}
 use Rattle.store.specs.Decode.{decode}
 use Rattle.store.specs.Calls.{insertIn, deleteIn, ofKey, ofRange, createAnswer, keysAnswer, witnessAnswer, keysWithPrefixAnswer, valueRangeAnswer}
 use Rattle.store.specs.History.{Edit, Insert, Delete, storeAfter, modelAfter}
@@ -39,7 +39,7 @@ decoded : (h : List Edit) → decode (storeAfter 4 h) ≡ modelAfter 4 h
 decoded h = store-decodes 4 (lit≤ tt) (lit≤ tt) h
 
 fresh-bytes : encode (fresh 1) ≡ (0x10 ∷ 0x02 ∷ 0x00 ∷ 0x00 ∷ 0x00 ∷ 0x01 ∷ 0x00 ∷ 0x00 ∷ []) ++ zeros 150
-unfolding encode fresh bytesOf withSlots setHeader setSlot setDigest putRoom place headAt keyAt valueAt digestAt recut joined fields subtreeAt size zeros
+unfolding encodeIn fresh bytesOf withSlots setHeader setSlotAs setDigest putRoom place headAt keyAt valueAt digestAt recut joined fields subtreeAt size zeros
 fresh-bytes = refl
 
 fresh-is : (s : List ℕ) → length s ≡ 158

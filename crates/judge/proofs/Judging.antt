@@ -13,7 +13,7 @@ use Rattle.llrb.proofs.Height.{height-20}
 use Rattle.store.specs.Counts.{occurs}
 use Rattle.store.specs.Counting.{is-self}
 use Rattle.store.specs.Model.{Model, slotsOf, root}
-use Rattle.store.specs.Sound.{Nodes, Short, Sound}
+use Rattle.store.specs.Sound.{Nodes, Marks, Short, SoundIn}
 use Rattle.store.proofs.Trees.{slots-node}
 use Rattle.store.proofs.Decoding.{live-and-free}
 use Rattle.store.proofs.Operating.{tree-lawful}
@@ -40,12 +40,15 @@ inside-of : (cap : ℕ) (f : List ℕ) → ((x : ℕ) → 1 ≤ occurs x f → (
 inside-of cap [] h = tt
 inside-of cap (y ∷ f) h = (h y (omega (arith, is-self y)), inside-of cap f (λ x p. h x (omega arith)))
 
-module _ (s : List ℕ) (h : Sound s) where
+module _ {d : ℕ} (s : List ℕ) (h : SoundIn d s) where
   abbrev m : Model
   m = h .0
 
   cap-is : header s .capacity ≡ m .capacity
   cap-is = ap (λ (z : Header). z .capacity) (h .1 .laid .header)
+
+  edition-is : header s .edition ≡ d
+  edition-is = ap (λ (z : Header). z .edition) (h .1 .laid .header)
 
   live-is : header s .live ≡ size (m .tree)
   live-is = ap (λ (z : Header). z .live) (h .1 .laid .header)
@@ -56,10 +59,10 @@ module _ (s : List ℕ) (h : Sound s) where
   pub long-of : 8 ≤ length s
   long-of = omega (arith, h .1 .laid .len)
 
-  pub header-of : HeaderOk (length s) (header s)
+  pub header-of : HeaderOk d (length s) (header s)
   header-of =
       record {
-        edition = ap (λ (z : Header). z .edition) (h .1 .laid .header);
+        edition = edition-is;
         zero = ap (λ (z : Header). z .zero) (h .1 .laid .header);
         least = omega (arith, cap-is, h .1 .lawful .least);
         sized = record { most = omega (arith, cap-is, h .1 .lawful .most); len = omega (arith, cap-is, h .1 .laid .len) };
@@ -71,7 +74,7 @@ module _ (s : List ℕ) (h : Sound s) where
       record {
         within = within-of (header s .capacity) (m .tree) (λ x p. subst (λ (c : ℕ). (1 ≤ x) × (x ≤ c)) (sym cap-is) (tree-within (h .1 .lawful) x p));
         nodes = h .1 .laid .nodes;
-        digests = h .1 .laid .digests;
+        marks = subst (λ (e : ℕ). Marks e s (m .tree)) (sym edition-is) (h .1 .laid .marks);
         redsApart = h .1 .lawful .redsApart;
         leansLeft = h .1 .lawful .leansLeft;
       }
@@ -121,8 +124,8 @@ short-of s cap (node c e l r) z w a =
     (padded-most 64 (e .value) (ap length (sym (ap (λ (y : Slot). y .valueRoom) (a .0))) ∙ f .valueRoom))
     (short-of s cap r z (w .2) (a .2))
 
-pub sound-of : (s : List ℕ) → HeaderOk (length s) (header s) → {q n b : ℕ} → (t : Tree) × Seen s (header s .capacity) 20 (header s .root) 0 (header s .live) true t q n b
-    → n ≡ 0 → HasChain s (header s .capacity) (header s .free) (header s .capacity - header s .live) → Sound s
+pub sound-of : {d : ℕ} (s : List ℕ) → HeaderOk d (length s) (header s) → {q n b : ℕ} → (t : Tree) × Seen s (header s .capacity) 20 (header s .root) 0 (header s .live) true t q n b
+    → n ≡ 0 → HasChain s (header s .capacity) (header s .free) (header s .capacity - header s .live) → SoundIn d s
 sound-of s o {q} {n} {b} x z k =
     let t = x .0 in
     let g = x .1 .good in
@@ -138,7 +141,7 @@ sound-of s o {q} {n} {b} x z k =
               len = o .sized .len;
               header = λ i. record { edition = o .edition i; capacity = c; live = sym e i; root = sym ex i; free = sym ek i; zero = o .zero i };
               nodes = g .nodes;
-              digests = g .digests;
+              marks = subst (λ (e : ℕ). Marks e s t) (o .edition) (g .marks);
               chain = k .chain;
             };
         lawful =
@@ -159,20 +162,20 @@ sound-of s o {q} {n} {b} x z k =
 -- ---- in the words of the code, h the header that it read
 
 module _ (s : List ℕ) {h : Header} (e : h ≡ header s) where
-  pub header-says : Sound s → HeaderOk (length s) h
-  header-says x = subst (HeaderOk (length s)) (sym e) (header-of s x)
+  pub header-says : {d : ℕ} → SoundIn d s → HeaderOk d (length s) h
+  header-says {d} x = subst (HeaderOk d (length s)) (sym e) (header-of s x)
 
-  pub walk-none : ((t : Tree) → Fits s (h .capacity) 20 (h .root) 0 (h .live) true t → ⊥) → Sound s → ⊥
+  pub walk-none : {d : ℕ} → ((t : Tree) → Fits s (h .capacity) 20 (h .root) 0 (h .live) true t → ⊥) → SoundIn d s → ⊥
   walk-none k x = subst (λ (z : Header). (t : Tree) → Fits s (z .capacity) 20 (z .root) 0 (z .live) true t → ⊥) e k (x .0 .tree) (fits-of s x)
 
   module _ {q n b : ℕ} (x : (t : Tree) × Seen s (h .capacity) 20 (h .root) 0 (h .live) true t q n b) where
     seen : (t : Tree) × Seen s (header s .capacity) 20 (header s .root) 0 (header s .live) true t q n b
     seen = subst (λ (z : Header). (t : Tree) × Seen s (z .capacity) 20 (z .root) 0 (z .live) true t q n b) e x
 
-    pub left-over : (n ≡ 0 → ⊥) → Sound s → ⊥
+    pub left-over : {d : ℕ} → (n ≡ 0 → ⊥) → SoundIn d s → ⊥
     left-over k y = k (none-left-of s y seen)
 
-    pub chain-says : HeaderOk (length s) h → n ≡ 0 → (o : Bool) → Decides o (HasChain s (h .capacity) (h .free) (h .capacity - h .live)) → Decides o (Sound s)
-    chain-says g k o d =
-        decides-via o (λ c. sound-of s (subst (HeaderOk (length s)) e g) seen k c) (λ y. chain-of s y)
-        (subst (λ (z : Header). Decides o (HasChain s (z .capacity) (z .free) (z .capacity - z .live))) e d)
+    pub chain-says : {d : ℕ} → HeaderOk d (length s) h → n ≡ 0 → (o : Bool) → Decides o (HasChain s (h .capacity) (h .free) (h .capacity - h .live)) → Decides o (SoundIn d s)
+    chain-says {d} g k o says =
+        decides-via o (λ c. sound-of s (subst (HeaderOk d (length s)) e g) seen k c) (λ y. chain-of s y)
+        (subst (λ (z : Header). Decides o (HasChain s (z .capacity) (z .free) (z .capacity - z .live))) e says)

@@ -2,18 +2,20 @@
 use mathlib.Core.Path.{_≡_, refl, sym, ap, subst, _∙_}
 use mathlib.Core.Bool.{Bool, true, false, not, true≢false}
 use mathlib.Core.List.{List}
-use Prim.Native.Nat.{ℕ, zero, suc, _-_, _≤_}
+use Prim.Native.Nat.{ℕ, zero, suc, _-_, _≤_, _<_}
 use native.Mathlib.Omega.{arith}
+use lib.Dec.{eqb}
 use lib.ListN.{length, length-append}
+use borrow.Author.Tests.{eqb-true, eqb-false}
 use Rattle.key_order.specs.Order.{Key, pick, cmp, isSame, isBelow}
 use Rattle.key_order.specs.declared.Ordering.{Ordering}
 use Rattle.key_order.specs.declared.Ordering.the-variants.{Less}
 use Rattle.key_order.proofs.Laws.{same-refl, same-eq, below-less}
 use Rattle.hash_tree.specs.HashTree.{Digest}
 use Rattle.slots.specs.declared.Head.{Head}
-use Rattle.slots.specs.Layout.{HasSlot, Decides, Slot, slot, headOf, keyOf, valueOf, digestOf, padded, zeros, IsEntry}
+use Rattle.slots.specs.Layout.{HasSlot, Decides, countIn, header, Slot, slot, countOf, headOf, keyOf, valueOf, digestOf, padded, zeros, IsEntry}
 use Rattle.slots.proofs.Lenses.{slot-fits}
-use Rattle.entries.specs.Digests.{LinksIn, computeSubtreeHash}
+use Rattle.entries.specs.Digests.{LinksIn, computeSubtreeHash, linkedCount}
 use Rattle.judge.specs.Rising.{Bound, over, Past}
 use Rattle.judge.specs.Steps.{Sized, NodeOk, boundOf}
 
@@ -56,7 +58,7 @@ entry-value s i p a =
     let m = padded-most 64 (valueOf (slot s i)) (ap length (sym (ap (λ (z : Slot). z .valueRoom) a)) ∙ slot-fits s i p .valueRoom) in
     omega (arith, ap (λ (z : Slot). z .valueLength) a)
 
-module _ (s : List ℕ) (cap i : ℕ) (k : Bool) {h : Head} (e : h ≡ headOf (slot s i)) where
+module _ (s : List ℕ) (cap i : ℕ) (k : Bool) {h : Head} (e : h ≡ headOf (slot s i) (countOf s i)) where
   red-of : h .red ≡ slot s i .red
   red-of = ap (λ (z : Head). z .red) e
 
@@ -71,6 +73,9 @@ module _ (s : List ℕ) (cap i : ℕ) (k : Bool) {h : Head} (e : h ≡ headOf (s
 
   pub value-length-of : h .«value_length» ≡ slot s i .valueLength
   value-length-of = ap (λ (z : Head). z .«value_length») e
+
+  pub count-of : h .count ≡ countOf s i
+  count-of = ap (λ (z : Head). z .count) e
 
   pub colour-of : NodeOk s cap i k → k ≡ true → h .red ≡ false
   colour-of a x = red-of ∙ a .colour x
@@ -91,9 +96,31 @@ module _ (s : List ℕ) (cap i : ℕ) (k : Bool) {h : Head} (e : h ≡ headOf (s
         value = entry-value s i p a;
       }
 
-  pub node-made : (k ≡ true → h .red ≡ false) → h .left ≤ cap → h .right ≤ cap → IsEntry s i → {d : Digest} → d ≡ computeSubtreeHash s i → digestOf s i ≡ d → NodeOk s cap i k
-  node-made c l r a x y =
-      record { entry = a; colour = λ z. sym red-of ∙ c z; left = omega (arith, left-of); right = omega (arith, right-of); digest = y ∙ x }
+  pub node-made : (k ≡ true → h .red ≡ false) → h .left ≤ cap → h .right ≤ cap → IsEntry s i → countOf s i ≡ countIn (header s .edition) (linkedCount s i) → {d : Digest} → d ≡ computeSubtreeHash s i → digestOf s i ≡ d
+      → NodeOk s cap i k
+  node-made c l r a n x y =
+      record { entry = a; colour = λ z. sym red-of ∙ c z; left = omega (arith, left-of); right = omega (arith, right-of); count = n; digest = y ∙ x }
+
+-- ---- its count
+
+-- editions 0 and 1 have zero bits, the later ones the number
+pub count-old : (e n : ℕ) → e < 2 → countIn e n ≡ 0
+count-old zero n p = refl
+count-old (suc zero) n p = refl
+count-old (suc (suc e)) n p = absurd (omega arith)
+
+pub count-new : (e n : ℕ) → 2 ≤ e → countIn e n ≡ n
+count-new zero n p = absurd (omega arith)
+count-new (suc zero) n p = absurd (omega arith)
+count-new (suc (suc e)) n p = refl
+
+-- a number tested for another
+pub number-decides : (a b : ℕ) {x y : ℕ} → a ≡ x → b ≡ y → Decides (eqb a b) (x ≡ y)
+number-decides a b {x} {y} p q = go (eqb a b) refl
+  where
+    go : (o : Bool) → eqb a b ≡ o → Decides o (x ≡ y)
+    go true e = sym p ∙ eqb-true a b e ∙ q
+    go false e = λ h. eqb-false a b e (p ∙ h ∙ sym q)
 
 -- ---- the order
 

@@ -6,14 +6,14 @@ use Prim.Native.Nat.{ℕ, _+_, _-_, _≤_, _<_}
 use native.Mathlib.Omega.{arith}
 use lib.Dec.{eqb}
 use borrow.Author.Tests.{eqb-true, eqb-false, ne-eqb, eq-eqb}
-use Rattle.slots.specs.Layout.{Slot, slot, digestOf, keyOf, valueOf, nodeSlot, IsEntry}
+use Rattle.slots.specs.Layout.{countIn, header, Slot, slot, Mark, countOf, digestOf, keyOf, valueOf, nodeSlot, IsEntry}
 use Rattle.llrb.specs.Tree.{Entry, Tree, nil, node, isRed, entries, size}
 use Rattle.llrb.specs.Shape.{Blacks, SameBlacks, height}
 use Rattle.llrb.specs.Digests.{isNil, subtreeDigest}
-use Rattle.entries.specs.Digests.{computeSubtreeHash}
-use Rattle.entries.proofs.Laws.{subtree-right}
+use Rattle.entries.specs.Digests.{computeSubtreeHash, linkedCount}
+use Rattle.entries.proofs.Laws.{subtree-right, count-right}
 use Rattle.store.specs.Model.{root}
-use Rattle.store.specs.Sound.{Digests}
+use Rattle.store.specs.Sound.{Marks}
 use Rattle.slots.proofs.Writing.{node-key, node-value}
 use Rattle.llrb.proofs.Height.{size-node}
 use Rattle.judge.specs.declared.Trail.{Trail}
@@ -37,10 +37,14 @@ link-nil : (cap : ℕ) (t : Tree) → Within cap t → {x : ℕ} → x ≡ root 
 link-nil cap nil w p = eq-eqb _ 0 p
 link-nil cap (node c e l r) w p = ap (λ (x : ℕ). eqb x 0) p ∙ no-link (e .slot) (w .0 .0)
 
--- the stored digest of a child, where there is one
-child-digest : (s : List ℕ) (t : Tree) → Digests s t → {x : ℕ} → x ≡ root t → isNil t ≡ false → digestOf s x ≡ subtreeDigest t
-child-digest s nil d p n = absurd (true≢false n)
-child-digest s (node c e l r) d p n = ap (digestOf s) p ∙ d .0
+-- the stored digest and count of a child, where there is one
+child-digest : (d : ℕ) (s : List ℕ) (t : Tree) → Marks d s t → {x : ℕ} → x ≡ root t → isNil t ≡ false → digestOf s x ≡ subtreeDigest t
+child-digest d s nil m p n = absurd (true≢false n)
+child-digest d s (node c e l r) m p n = ap (digestOf s) p ∙ ap (λ (z : Mark). z .digest) (m .0)
+
+child-count : (d : ℕ) (s : List ℕ) (t : Tree) → Marks d s t → {x : ℕ} → x ≡ root t → isNil t ≡ false → countOf s x ≡ countIn d (size t)
+child-count d s nil m p n = absurd (true≢false n)
+child-count d s (node c e l r) m p n = ap (countOf s) p ∙ ap (λ (z : Mark). z .count) (m .0)
 
 -- ---- one node of a tree, as its slot tells
 
@@ -64,10 +68,10 @@ module _ (s : List ℕ) (cap : ℕ) (c : Bool) (e : Entry) (l r : Tree) (g : Goo
   value-is = ap (λ (z : Slot). valueOf z) there ∙ node-value c (e .key) (e .value) (root l) (root r)
 
   left-good : Good s cap l
-  left-good = record { within = g .within .1; nodes = g .nodes .1; digests = g .digests .1; redsApart = g .redsApart .1; leansLeft = g .leansLeft .1 }
+  left-good = record { within = g .within .1; nodes = g .nodes .1; marks = g .marks .1; redsApart = g .redsApart .1; leansLeft = g .leansLeft .1 }
 
   right-good : Good s cap r
-  right-good = record { within = g .within .2; nodes = g .nodes .2; digests = g .digests .2; redsApart = g .redsApart .2; leansLeft = g .leansLeft .2 }
+  right-good = record { within = g .within .2; nodes = g .nodes .2; marks = g .marks .2; redsApart = g .redsApart .2; leansLeft = g .leansLeft .2 }
 
   is-entry : IsEntry s (e .slot)
   is-entry =
@@ -81,7 +85,12 @@ module _ (s : List ℕ) (cap : ℕ) (c : Bool) (e : Entry) (l r : Tree) (g : Goo
   digest-is : computeSubtreeHash s (e .slot) ≡ subtreeDigest (node c e l r)
   digest-is =
       subtree-right s (e .slot) c e l r key-is value-is (link-nil cap l (g .within .1) left-is) (link-nil cap r (g .within .2) right-is)
-      (child-digest s l (g .digests .1) left-is) (child-digest s r (g .digests .2) right-is)
+      (child-digest (header s .edition) s l (g .marks .1) left-is) (child-digest (header s .edition) s r (g .marks .2) right-is)
+
+  count-is : countIn (header s .edition) (linkedCount s (e .slot)) ≡ countIn (header s .edition) (size (node c e l r))
+  count-is =
+      count-right (header s .edition) s (e .slot) c e l r (link-nil cap l (g .within .1) left-is) (link-nil cap r (g .within .2) right-is)
+      (child-count (header s .edition) s l (g .marks .1) left-is) (child-count (header s .edition) s r (g .marks .2) right-is)
 
   pub node-of : (k : Bool) → (k ≡ true → c ≡ false) → NodeOk s cap (e .slot) k
   node-of k b =
@@ -90,7 +99,8 @@ module _ (s : List ℕ) (cap : ℕ) (c : Bool) (e : Entry) (l r : Tree) (g : Goo
         colour = λ h. red-is ∙ b h;
         left = omega (arith, left-is, root-within cap l (g .within .1));
         right = omega (arith, right-is, root-within cap r (g .within .2));
-        digest = g .digests .0 ∙ sym digest-is;
+        count = ap (λ (z : Mark). z .count) (g .marks .0) ∙ sym count-is;
+        digest = ap (λ (z : Mark). z .digest) (g .marks .0) ∙ sym digest-is;
       }
 
 -- the entry that slot h holds
@@ -106,14 +116,20 @@ module _ (s : List ℕ) (cap h : ℕ) (k : Bool) (low : 1 ≤ h) (high : h ≤ c
   digest-here =
       ok .digest
       ∙ subtree-right s h (slot s h .red) (entryAt s h) l r refl refl (link-nil cap l (gl .within) (sym tl)) (link-nil cap r (gr .within) (sym tr))
-      (child-digest s l (gl .digests) (sym tl)) (child-digest s r (gr .digests) (sym tr))
+      (child-digest (header s .edition) s l (gl .marks) (sym tl)) (child-digest (header s .edition) s r (gr .marks) (sym tr))
+
+  count-here : countOf s h ≡ countIn (header s .edition) (size (node (slot s h .red) (entryAt s h) l r))
+  count-here =
+      ok .count
+      ∙ count-right (header s .edition) s h (slot s h .red) (entryAt s h) l r (link-nil cap l (gl .within) (sym tl)) (link-nil cap r (gr .within) (sym tr))
+      (child-count (header s .edition) s l (gl .marks) (sym tl)) (child-count (header s .edition) s r (gr .marks) (sym tr))
 
   pub node-good : Good s cap (node (slot s h .red) (entryAt s h) l r)
   node-good =
       record {
         within = ((low, high), gl .within, gr .within);
         nodes = (here, gl .nodes, gr .nodes);
-        digests = (digest-here, gl .digests, gr .digests);
+        marks = (λ i. record { count = count-here i; digest = digest-here i }, gl .marks, gr .marks);
         redsApart = ((λ x. (bl x, br)), gl .redsApart, gr .redsApart);
         leansLeft = (br, gl .leansLeft, gr .leansLeft);
       }
@@ -151,7 +167,7 @@ seen-nil e w = (
   nil,
   record {
     top = sym e;
-    good = record { within = tt; nodes = tt; digests = tt; redsApart = tt; leansLeft = tt };
+    good = record { within = tt; nodes = tt; marks = tt; redsApart = tt; leansLeft = tt };
     colour = λ x. refl;
     rising = tt;
     last = refl;

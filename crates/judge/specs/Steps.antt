@@ -6,12 +6,12 @@ use Prim.Native.Nat.{ℕ, zero, suc, _+_, _≤_}
 use lib.Dec.{eqb}
 use lib.ListN.{length}
 use Rattle.slots.specs.declared.Header.{Header}
-use Rattle.slots.specs.Layout.{storeLength, slot, digestOf, keyOf, IsEntry, IsFree}
+use Rattle.slots.specs.Layout.{countIn, storeLength, header, slot, countOf, digestOf, keyOf, IsEntry, IsFree}
 use Rattle.llrb.specs.Tree.{Tree, nil, node, isRed, entries, size}
 use Rattle.llrb.specs.Shape.{RedsApart, LeansLeft, Blacks, SameBlacks, height}
-use Rattle.entries.specs.Digests.{computeSubtreeHash}
+use Rattle.entries.specs.Digests.{computeSubtreeHash, linkedCount}
 use Rattle.store.specs.Model.{root, head}
-use Rattle.store.specs.Sound.{Nodes, Digests, Chain}
+use Rattle.store.specs.Sound.{Nodes, Marks, Chain}
 use Rattle.judge.specs.declared.Trail.{Trail}
 use Rattle.judge.specs.declared.Trail.the-variants.{Got, Bad}
 use Rattle.judge.specs.Rising.{Bound, none, over, Rising, lastOf}
@@ -29,6 +29,7 @@ pub record NodeOk (s : List ℕ) (cap h : ℕ) (black : Bool) : Type 0 where
   pub colour : black ≡ true → slot s h .red ≡ false
   pub left : slot s h .left ≤ cap
   pub right : slot s h .right ≤ cap
+  pub count : countOf s h ≡ countIn (header s .edition) (linkedCount s h)
   pub digest : digestOf s h ≡ computeSubtreeHash s h
 
 -- ---- a subtree
@@ -38,11 +39,11 @@ abbrev pub Within : ℕ → Tree → Type 0
 Within cap nil = Unit {0}
 Within cap (node c e l r) = ((1 ≤ e .slot) × (e .slot ≤ cap)) × Within cap l × Within cap r
 
--- what holds of a subtree by itself
+-- what holds of a subtree by itself, its marks being those of the edition that the header names
 pub record Good (s : List ℕ) (cap : ℕ) (t : Tree) : Type 0 where
   pub within : Within cap t
   pub nodes : Nodes s t
-  pub digests : Digests s t
+  pub marks : Marks (header s .edition) s t
   pub redsApart : RedsApart t
   pub leansLeft : LeansLeft t
 
@@ -118,9 +119,9 @@ pub record Along (s : List ℕ) (cap x n y k : ℕ) : Type 0 where
 
 -- ---- the header
 
--- a header by itself, of a store of n bytes
-pub record HeaderOk (n : ℕ) (h : Header) : Type 0 where
-  pub edition : h .edition ≡ 1
+-- a header by itself, of a store of n bytes in an edition
+pub record HeaderOk (e n : ℕ) (h : Header) : Type 0 where
+  pub edition : h .edition ≡ e
   pub zero : h .zero ≡ 0
   pub least : 1 ≤ h .capacity
   pub sized : Sized n (h .capacity)

@@ -3,17 +3,20 @@
 // One walk over the tree, in order, and one over the free chain; each digest is worked out once, from the children's stored ones.
 // No slot is marked: keys that rise strictly name a slot once, a chain that ends names a slot once, live bits keep the two apart,
 // and the counts say that nothing is left over. Links that form a cycle break the order of keys at the first slot met again.
+use entries::linked_count;
 use entries::subtree_digest;
 use key_order::below;
 use key_order::same;
+use slots::EDITION;
 use slots::Head;
 use slots::Header;
 ghost use mathlib.Core.Path.{_≡_};
 ghost use mathlib.Core.Bool.{true, false};
 ghost use Prim.Native.Nat.{_≤_};
 ghost use lib.ListN.{length};
-ghost use Rattle.slots.specs.Layout.{HasSlot, Decides, slot, headOf, keyOf};
-ghost use Rattle.store.specs.Sound.{Sound};
+ghost use Rattle.slots.specs.Layout.{HasSlot, Decides, countIn, header, slot, countOf, headOf, keyOf};
+ghost use Rattle.entries.specs.Digests.{LinksIn, linkedCount};
+ghost use Rattle.store.specs.Sound.{SoundIn, Sound};
 ghost use Rattle.judge.specs.Rising.{Past};
 ghost use Rattle.judge.specs.Steps.{Sized, HeaderOk, NodeOk, boundOf, Met, WalkSays, joined, HasChain};
 
@@ -30,10 +33,10 @@ pub enum Trail {
     Bad,
 }
 
-fn header_ok(n: usize, h: Header) -> bool
-    ensures { λ b. ⌜ Decides b (HeaderOk n h) ⌝ }
+fn header_ok(edition: usize, n: usize, h: Header) -> bool
+    ensures { λ b. ⌜ Decides b (HeaderOk edition n h) ⌝ }
 {
-    if h.edition != 1 {
+    if h.edition != edition {
         return false;
     }
     if h.zero != 0 {
@@ -64,11 +67,24 @@ fn colour_ok(red: bool, black: bool) -> bool
     !red
 }
 
+// Whether the count `n` of slot `i` is what its links count; edition 1 has zero bits there.
+fn count_ok(s: &[u8], i: usize, n: usize) -> bool
+    requires { ⌜ LinksIn (now s) i ⌝ }
+    requires { ⌜ n ≡ countOf (now s) i ⌝ }
+    ensures { λ b. ⌜ Decides b (countOf (now (s .entry)) i ≡ countIn (header (now (s .entry)) .edition) (linkedCount (now (s .entry)) i)) ⌝ }
+{
+    let edition = slots::header_of(s).edition;
+    if edition < 2 {
+        return n == 0;
+    }
+    n == linked_count(s, i)
+}
+
 // Whether slot `i`, whose head is `h`, holds a node. What is cheap is tested first.
 fn node_ok(s: &[u8], cap: usize, i: usize, h: Head, black: bool) -> bool
     requires { ⌜ Sized (length (now s)) cap ⌝ }
     requires { ⌜ HasSlot (length (now s)) i ⌝ }
-    requires { ⌜ h ≡ headOf (slot (now s) i) ⌝ }
+    requires { ⌜ h ≡ headOf (slot (now s) i) (countOf (now s) i) ⌝ }
     ensures { λ b. ⌜ Decides b (NodeOk (now (s .entry)) cap i black) ⌝ }
 {
     if !colour_ok(h.red, black) {
@@ -81,6 +97,9 @@ fn node_ok(s: &[u8], cap: usize, i: usize, h: Head, black: bool) -> bool
         return false;
     }
     if !slot_tests::is_entry(s, i, h) {
+        return false;
+    }
+    if !count_ok(s, i, h.count) {
         return false;
     }
     let d = subtree_digest(s, i);
@@ -199,15 +218,15 @@ fn chain_ok(s: &[u8], cap: usize, x: usize, n: usize) -> bool
     more == 0
 }
 
-// Whether the bytes are a sound store.
-pub fn judge(s: &[u8]) -> bool
-    ensures { λ b. ⌜ Decides b (Sound (now (s .entry))) ⌝ }
+// Whether the bytes are a sound store of an edition.
+pub fn judge_in(s: &[u8], edition: usize) -> bool
+    ensures { λ b. ⌜ Decides b (SoundIn edition (now (s .entry))) ⌝ }
 {
     if s.len() < 8 {
         return false;
     }
     let h = slots::header_of(s);
-    if !header_ok(s.len(), h) {
+    if !header_ok(edition, s.len(), h) {
         return false;
     }
     let Trail::Got { last, left, blacks } = walk(s, h.capacity, MAX_HEIGHT, h.root, 0, h.live, true)
@@ -218,6 +237,13 @@ pub fn judge(s: &[u8]) -> bool
         return false;
     }
     chain_ok(s, h.capacity, h.free, h.capacity - h.live)
+}
+
+// Whether the bytes are a sound store.
+pub fn judge(s: &[u8]) -> bool
+    ensures { λ b. ⌜ Decides b (Sound (now (s .entry))) ⌝ }
+{
+    judge_in(s, EDITION)
 }
 
 // For C: whether the bytes are a sound store.

@@ -7,18 +7,19 @@ use mathlib.Core.Option.{some}
 use Prim.Native.Nat.{ℕ, _+_, _≤_}
 use native.Mathlib.Omega.{arith}
 use lib.ListN.{length}
-use Rattle.slots.specs.Layout.{HasSlot, Slot, slot, digestOf, nodeSlot}
+use Rattle.slots.specs.Layout.{current, HasSlot, Slot, slot, markOf, nodeSlot}
 use Rattle.slots.specs.Setters.{withRed, setRed, Keeps}
 use Rattle.slots.proofs.Writing.{keeps-trans, keeps-more, keeps-has, wrote-red}
-use Rattle.llrb.specs.Tree.{Entry, Tree, nil, node}
+use Rattle.llrb.specs.Tree.{Entry, Tree, nil, node, size}
 use Rattle.llrb.specs.Panic.{flipColorsP}
 use Rattle.llrb.specs.Digests.{subtreeDigest}
 use Rattle.store.specs.Counts.{is}
 use Rattle.store.specs.Model.{root}
+use Rattle.store.specs.Sound.{subtreeMark}
 use Rattle.rb_nodes.specs.Heap.{count, Held, Marked, Turn}
 use Rattle.rb_nodes.proofs.Counts.{is-eq}
-use Rattle.rb_nodes.proofs.Heap.{frame-held, marked-by, wrote-digests, node-held, slot-top, top-in, kid-left, kid-right, held-left, held-right}
-use Rattle.rb_nodes.proofs.Hashing.{digest-colour}
+use Rattle.rb_nodes.proofs.Heap.{frame-held, marked-by, wrote-marks, node-held, slot-top, top-in, kid-left, kid-right, held-left, held-right}
+use Rattle.rb_nodes.proofs.Hashing.{mark-colour}
 use Rattle.rb_nodes.proofs.Steps.{recolour}
 use Rattle.rb_nodes.proofs.Option.{no, same}
 
@@ -29,10 +30,10 @@ at-flipColors P f (node c e nil r) u w = absurd (no w)
 at-flipColors P f (node c e (node d x ll lr) nil) u w = absurd (no w)
 at-flipColors P f (node c e (node d x ll lr) (node b y rl rr)) u w = subst (P (node c e (node d x ll lr) (node b y rl rr))) (same w) (f c e d x ll lr b y rl rr)
 
--- colours are in no digest
+-- colours are in no mark
 colours : (c c′ d d′ b b′ : Bool) (e x y : Entry) (ll lr rl rr : Tree)
-    → subtreeDigest (node c e (node d x ll lr) (node b y rl rr)) ≡ subtreeDigest (node c′ e (node d′ x ll lr) (node b′ y rl rr))
-unfolding subtreeDigest
+    → subtreeMark current (node c e (node d x ll lr) (node b y rl rr)) ≡ subtreeMark current (node c′ e (node d′ x ll lr) (node b′ y rl rr))
+unfolding subtreeDigest size
 colours c c′ d d′ b b′ e x y ll lr rl rr = refl
 
 recoloured : (s : List ℕ) (c c′ d d′ b b′ : Bool) (e x y : Entry) (ll lr rl rr : Tree)
@@ -41,8 +42,8 @@ recoloured s c c′ d d′ b b′ e x y ll lr rl rr (inl v) = inl (v .0, recolou
 recoloured s c c′ d d′ b b′ e x y ll lr rl rr (inr v) =
     inr (
       v .0 ∙ colours c c′ d d′ b b′ e x y ll lr rl rr,
-      (v .1 .0 ∙ digest-colour d d′ x ll lr, v .1 .1, v .1 .2),
-      (v .2 .0 ∙ digest-colour b b′ y rl rr, v .2 .1, v .2 .2),
+      (v .1 .0 ∙ mark-colour d d′ x ll lr, v .1 .1, v .1 .2),
+      (v .2 .0 ∙ mark-colour b b′ y rl rr, v .2 .1, v .2 .2),
     )
 
 pub record Three (s : List ℕ) (h l r : ℕ) : Type 0 where
@@ -92,8 +93,8 @@ module _ {s : List ℕ} {h l r : ℕ} (el : l ≡ slot s h .left) (er : r ≡ sl
         node-held x (al .top) (keeps-has g li) has-l (frame-held ll g (kid-left al) (off ll (λ j. omega arith))) (frame-held lr g (kid-right al) (off lr (λ j. omega arith))) (al .once) in
         let hr : Held s3 r (node (not b) y rl rr) =
         node-held y (ar .top) (keeps-has g ri) has-r (frame-held rl g (kid-left ar) (off rl (λ j. omega arith))) (frame-held rr g (kid-right ar) (off rr (λ j. omega arith))) (ar .once) in
-        let digs : (j : ℕ) → HasSlot (length s) j → digestOf s3 j ≡ digestOf s j =
-        λ j i. let i1 = keeps-has (w1 .kept) i in wrote-digests w3 j (keeps-has (w2 .kept) i1) ∙ wrote-digests w2 j i1 ∙ wrote-digests w1 j i in
+        let digs : (j : ℕ) → HasSlot (length s) j → markOf s3 j ≡ markOf s j =
+        λ j i. let i1 = keeps-has (w1 .kept) i in wrote-marks w3 j (keeps-has (w2 .kept) i1) ∙ wrote-marks w2 j i1 ∙ wrote-marks w1 j i in
         record {
           held = node-held e (a .top) (keeps-has g hi) has-h hl hr (a .once);
           keeps = keeps-more (λ j p. omega (arith, ap (is j) (a .top), ap (is j) (al .top), ap (is j) (ar .top))) g;

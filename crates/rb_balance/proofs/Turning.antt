@@ -8,7 +8,7 @@ use mathlib.Core.Option.{some}
 use Prim.Native.Nat.{ℕ, _+_, _≤_, _<_}
 use native.Mathlib.Omega.{arith}
 use lib.ListN.{length}
-use Rattle.slots.specs.Layout.{HasSlot, Slot, slot, digestOf, nodeSlot}
+use Rattle.slots.specs.Layout.{HasSlot, Slot, slot, markOf, nodeSlot}
 use Rattle.slots.specs.Setters.{withLeft, withRight, withRed, setLeft, setRight, setRed, Keeps}
 use Rattle.slots.proofs.Writing.{keeps-trans, keeps-more, keeps-has, wrote-left, wrote-right, wrote-red}
 use Rattle.llrb.specs.Tree.{Entry, Tree, nil, node, left, right}
@@ -17,7 +17,7 @@ use Rattle.store.specs.Counts.{is}
 use Rattle.store.specs.Model.{root}
 use Rattle.rb_nodes.specs.Heap.{count, Held, Marked, Sides, Under, markStale, Turn}
 use Rattle.rb_nodes.proofs.Counts.{is-eq}
-use Rattle.rb_nodes.proofs.Heap.{frame-held, marked-by, wrote-digests, node-held, slot-top, top-in, kid-left, kid-right, held-left, held-right, top-lt}
+use Rattle.rb_nodes.proofs.Heap.{frame-held, marked-by, wrote-marks, node-held, slot-top, top-in, kid-left, kid-right, held-left, held-right, top-lt}
 use Rattle.rb_nodes.proofs.Steps.{after, inside-left, inside-right, under, marks}
 use Rattle.rb_nodes.proofs.Option.{no, same}
 
@@ -69,8 +69,8 @@ module _ {s : List ℕ} {h x y : ℕ} {c : Bool} {e z : Entry} {l rl rr : Tree} 
         (keeps-more (λ j q. omega (arith, is-eq q)) (w2 .kept)))
         (keeps-more (λ j q. omega (arith, is-eq q)) (w3 .kept)))
         (keeps-more (λ j q. omega (arith, is-eq q)) (w4 .kept)) in
-        let digs : (j : ℕ) → HasSlot (length s) j → digestOf s4 j ≡ digestOf s j =
-        λ j i. let i1 = keeps-has (w1 .kept) i in let i2 = keeps-has (w2 .kept) i1 in wrote-digests w4 j (keeps-has (w3 .kept) i2) ∙ wrote-digests w3 j i2 ∙ wrote-digests w2 j i1 ∙ wrote-digests w1 j i in
+        let digs : (j : ℕ) → HasSlot (length s) j → markOf s4 j ≡ markOf s j =
+        λ j i. let i1 = keeps-has (w1 .kept) i in let i2 = keeps-has (w2 .kept) i1 in wrote-marks w4 j (keeps-has (w3 .kept) i2) ∙ wrote-marks w3 j i2 ∙ wrote-marks w2 j i1 ∙ wrote-marks w1 j i in
         let off : (t : Tree) → ((j : ℕ) → count j t ≤ count j l + (count j rl + count j rr)) → (j : ℕ) → 1 ≤ count j t → 1 ≤ is j h + is j x → ⊥ =
         λ t i j p q. omega (arith, i j, a .once j, ap (is j) (a .top), ap (is j) (b .top)) in
         let low : Held s4 h (node true e l rl) =
@@ -152,8 +152,8 @@ module _ {s : List ℕ} {h x y : ℕ} {c : Bool} {e z : Entry} {ll lr r : Tree} 
         (keeps-more (λ j q. omega (arith, is-eq q)) (w2 .kept)))
         (keeps-more (λ j q. omega (arith, is-eq q)) (w3 .kept)))
         (keeps-more (λ j q. omega (arith, is-eq q)) (w4 .kept)) in
-        let digs : (j : ℕ) → HasSlot (length s) j → digestOf s4 j ≡ digestOf s j =
-        λ j i. let i1 = keeps-has (w1 .kept) i in let i2 = keeps-has (w2 .kept) i1 in wrote-digests w4 j (keeps-has (w3 .kept) i2) ∙ wrote-digests w3 j i2 ∙ wrote-digests w2 j i1 ∙ wrote-digests w1 j i in
+        let digs : (j : ℕ) → HasSlot (length s) j → markOf s4 j ≡ markOf s j =
+        λ j i. let i1 = keeps-has (w1 .kept) i in let i2 = keeps-has (w2 .kept) i1 in wrote-marks w4 j (keeps-has (w3 .kept) i2) ∙ wrote-marks w3 j i2 ∙ wrote-marks w2 j i1 ∙ wrote-marks w1 j i in
         let off : (t : Tree) → ((j : ℕ) → count j t ≤ count j ll + (count j lr + count j r)) → (j : ℕ) → 1 ≤ count j t → 1 ≤ is j h + is j x → ⊥ =
         λ t i j p q. omega (arith, i j, a .once j, ap (is j) (a .top), ap (is j) (b .top)) in
         let low : Held s4 h (node true e lr r) =

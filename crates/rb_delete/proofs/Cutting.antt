@@ -167,7 +167,7 @@ module _ {s : List ℕ} {h m : ℕ} {c : Bool} {e : Entry} {l r : Tree} (a : Hel
       let w = wrote-entry (top-in a) q next-in in
       let v : slot s m ≡ nodeSlot (next .red) (least e r .key) (least e r .value) (next .links .0) (next .links .1) = ap (slot s) em ∙ next .has in
       top-wrote (moved e (least e r)) a refl
-      (record { here = w .here ∙ (λ i. withEntryOf (v i) (slot-top a i)); digest = w .digest; kept = w .kept })
+      (record { here = w .here ∙ (λ i. withEntryOf (v i) (slot-top a i)); mark = w .mark; kept = w .kept })
 
 full-renew : (t : Tree) → Full t → Full (renew t)
 full-renew nil f = absurd f

@@ -39,7 +39,7 @@ pub revalued : {s s1 : List ℕ} {h : ℕ} (v : Value) (t : Tree) → Held s h t
 revalued v nil a f p b q = absurd f
 revalued v (node c e l r) a f p b q =
     let w = wrote-value (top-in a) v q p b in
-    top-wrote (withValue e v) a refl (record { here = w .here ∙ ap (setters.withValue v) (slot-top a); digest = w .digest; kept = w .kept })
+    top-wrote (withValue e v) a refl (record { here = w .here ∙ ap (setters.withValue v) (slot-top a); mark = w .mark; kept = w .kept })
 
 pub full-revalue : (v : Value) (t : Tree) → Full t → Full (revalue v t)
 full-revalue v nil f = absurd f

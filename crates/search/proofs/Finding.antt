@@ -8,7 +8,7 @@ use lib.ListN.{length}
 use borrow.Author.Tests.{le-ltb}
 use Rattle.key_order.specs.Order.{Key, cmp, isPrefixOf}
 use Rattle.slots.specs.declared.Head.{Head}
-use Rattle.slots.specs.Layout.{header, slot, headOf, keyAt, valueAt}
+use Rattle.slots.specs.Layout.{header, slot, countOf, headOf, keyAt, valueAt}
 use Rattle.llrb.specs.Tree.{Entry, Tree, nil, node, get}
 use Rattle.llrb.specs.Delete.{least}
 use Rattle.llrb.specs.Iterate.{firstEntry, orEntry, nextEntry}
@@ -106,7 +106,7 @@ place-found s none a = refl
 place-found s (some e) a = rw (a .keyLength, a .valueLength)
 
 -- the place from what the code reads
-pub read-place : (s : List ℕ) {i k v : ℕ} {h : Head} {f : Found} → f ≡ At i → h ≡ headOf (slot s i) → k ≡ keyAt (length s) i → v ≡ valueAt (length s) i
+pub read-place : (s : List ℕ) {i k v : ℕ} {h : Head} {f : Found} → f ≡ At i → h ≡ headOf (slot s i) (countOf s i) → k ≡ keyAt (length s) i → v ≡ valueAt (length s) i
     → place.At k (h .«key_length») v (h .«value_length») ≡ placeOf s f
 read-place s ef eh ek ev = rw (ef, eh, ek, ev)
 

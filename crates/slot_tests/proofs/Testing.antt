@@ -7,7 +7,7 @@ use native.Mathlib.Omega.{arith}
 use lib.ListN.{length, take, drop, length-take, length-drop, take-append-drop}
 use lib.Seq.{take-add, drop-at, drop-drop, length-take-le}
 use Rattle.slots.specs.declared.Head.{Head}
-use Rattle.slots.specs.Layout.{HasSlot, keyAt, valueAt, digestAt, place, room, Slot, slot, digestOf, keyOf, valueOf, IsEntry, IsFree, headOf}
+use Rattle.slots.specs.Layout.{HasSlot, keyAt, valueAt, digestAt, place, room, Slot, slot, Mark, countOf, digestOf, keyOf, valueOf, IsEntry, IsFree, headOf}
 use Rattle.runs.specs.Runs.{part, zeros, padded, Decides}
 use Rattle.runs.proofs.Runs.{part-length}
 use Rattle.slots.proofs.Lenses.{slot-fits}
@@ -54,12 +54,9 @@ module _ (s : List ℕ) (i a n : ℕ) (b : Bool) where
 
 -- ---- an entry's slot
 
-module _ (s : List ℕ) (i : ℕ) (h : Head) (p : HasSlot (length s) i) (e : h ≡ headOf (slot s i)) where
+module _ (s : List ℕ) (i : ℕ) (h : Head) (p : HasSlot (length s) i) (e : h ≡ headOf (slot s i) (countOf s i)) where
   pub is-live : IsEntry s i → h .live ≡ true
   is-live q = ap (λ (z : Head). z .live) e ∙ ap (λ (v : Slot). v .live) q
-
-  pub is-plain : IsEntry s i → h .zero ≡ 0
-  is-plain q = ap (λ (z : Head). z .zero) e ∙ ap (λ (v : Slot). v .zero) q
 
   pub is-short : IsEntry s i → h .«key_length» ≤ 48
   is-short q =
@@ -77,14 +74,13 @@ module _ (s : List ℕ) (i : ℕ) (h : Head) (p : HasSlot (length s) i) (e : h �
   pub is-value : IsEntry s i → slot s i .valueRoom ≡ padded 64 (take (h .«value_length») (slot s i .valueRoom))
   is-value q = ap (λ (v : Slot). v .valueRoom) q ∙ ap (λ (z : Head). padded 64 (take (z .«value_length») (slot s i .valueRoom))) (sym e)
 
-  pub entry-by : h .live ≡ true → h .zero ≡ 0 → h .«key_length» ≤ 48 → h .«value_length» ≤ 64 → slot s i .keyRoom ≡ padded 48 (take (h .«key_length») (slot s i .keyRoom))
+  pub entry-by : h .live ≡ true → h .«key_length» ≤ 48 → h .«value_length» ≤ 64 → slot s i .keyRoom ≡ padded 48 (take (h .«key_length») (slot s i .keyRoom))
       → slot s i .valueRoom ≡ padded 64 (take (h .«value_length») (slot s i .valueRoom)) → IsEntry s i
-  entry-by l z k v ek ev =
+  entry-by l k v ek ev =
       let f = slot-fits s i p in
       let kl : h .«key_length» ≡ slot s i .keyLength = ap (λ (y : Head). y .«key_length») e in
       let vl : h .«value_length» ≡ slot s i .valueLength = ap (λ (y : Head). y .«value_length») e in
       let ll : slot s i .live ≡ true = sym (ap (λ (y : Head). y .live) e) ∙ l in
-      let zz : slot s i .zero ≡ 0 = sym (ap (λ (y : Head). y .zero) e) ∙ z in
       let kn : slot s i .keyLength ≡ length (keyOf (slot s i)) = omega (arith, length-take (slot s i .keyLength) (slot s i .keyRoom), f .keyRoom) in
       let vn : slot s i .valueLength ≡ length (valueOf (slot s i)) = omega (arith, length-take (slot s i .valueLength) (slot s i .valueRoom), f .valueRoom) in
       let kk : slot s i .keyRoom ≡ padded 48 (keyOf (slot s i)) = ek ∙ ap (λ (n : ℕ). padded 48 (take n (slot s i .keyRoom))) kl in
@@ -97,7 +93,6 @@ module _ (s : List ℕ) (i : ℕ) (h : Head) (p : HasSlot (length s) i) (e : h �
         right = slot s i .right;
         keyLength = kn j;
         valueLength = vn j;
-        zero = zz j;
         keyRoom = kk j;
         valueRoom = vv j;
       }
@@ -117,7 +112,7 @@ module _ (s : List ℕ) (i : ℕ) where
   unfolding digestOf room place
   digest-at-is a e = ap (λ (k : ℕ). part k 32 s) e
 
-  module _ (h : Head) (e : h ≡ headOf (slot s i)) where
+  module _ (h : Head) (e : h ≡ headOf (slot s i) (countOf s i)) where
     pub free-live : IsFree s i → h .live ≡ false
     free-live q = ap (λ (z : Head). z .live) e ∙ ap (λ (v : Slot). v .live) (q .0)
 
@@ -133,15 +128,15 @@ module _ (s : List ℕ) (i : ℕ) where
     pub free-value : IsFree s i → h .«value_length» ≡ 0
     free-value q = ap (λ (z : Head). z .«value_length») e ∙ ap (λ (v : Slot). v .valueLength) (q .0)
 
-    pub free-plain : IsFree s i → h .zero ≡ 0
-    free-plain q = ap (λ (z : Head). z .zero) e ∙ ap (λ (v : Slot). v .zero) (q .0)
+    pub free-plain : IsFree s i → h .count ≡ 0
+    free-plain q = ap (λ (z : Head). z .count) e ∙ ap (λ (m : Mark). m .count) (q .1)
 
-    pub free-by : h .live ≡ false → h .red ≡ false → h .right ≡ 0 → h .«key_length» ≡ 0 → h .«value_length» ≡ 0 → h .zero ≡ 0 → slot s i .keyRoom ≡ zeros 48 → slot s i .valueRoom ≡ zeros 64 → digestOf s i ≡ zeros 32 → IsFree s i
+    pub free-by : h .live ≡ false → h .red ≡ false → h .right ≡ 0 → h .«key_length» ≡ 0 → h .«value_length» ≡ 0 → h .count ≡ 0 → slot s i .keyRoom ≡ zeros 48 → slot s i .valueRoom ≡ zeros 64 → digestOf s i ≡ zeros 32 → IsFree s i
     free-by a b c k v z ek ev ed =
         let ll = sym (ap (λ (y : Head). y .live) e) ∙ a in
         let rr = sym (ap (λ (y : Head). y .red) e) ∙ b in
         let tt = sym (ap (λ (y : Head). y .right) e) ∙ c in
         let kk = sym (ap (λ (y : Head). y .«key_length») e) ∙ k in
         let vv = sym (ap (λ (y : Head). y .«value_length») e) ∙ v in
-        let zz = sym (ap (λ (y : Head). y .zero) e) ∙ z in
-        (λ j. record { live = ll j; red = rr j; left = slot s i .left; right = tt j; keyLength = kk j; valueLength = vv j; zero = zz j; keyRoom = ek j; valueRoom = ev j }, ed)
+        let zz = sym (ap (λ (y : Head). y .count) e) ∙ z in
+        (λ j. record { live = ll j; red = rr j; left = slot s i .left; right = tt j; keyLength = kk j; valueLength = vv j; keyRoom = ek j; valueRoom = ev j }, λ j. record { count = zz j; digest = ed j })

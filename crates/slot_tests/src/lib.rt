@@ -1,11 +1,11 @@
-// Whether a slot is laid out as an entry's, or as a free one: lengths, zero bits, and zero bytes past the lengths.
+// Whether a slot is laid out as an entry's, or as a free one: lengths, and zero bytes past the lengths. An entry's mark is not looked at here.
 use slots::Head;
 ghost use mathlib.Core.Path.{_≡_};
 ghost use Prim.Native.Nat.{_≤_};
 ghost use lib.ListN.{length, take};
 ghost use Rattle.runs.specs.Runs.{padded, Decides};
 ghost use Rattle.slots.specs.Limits.{maxKey, maxValue};
-ghost use Rattle.slots.specs.Layout.{HasSlot, slot, IsEntry, IsFree, headOf};
+ghost use Rattle.slots.specs.Layout.{HasSlot, slot, countOf, IsEntry, IsFree, headOf};
 
 // Whether the key's room is `n` bytes of key and then zeros.
 fn key_padded(s: &[u8], i: usize, n: usize) -> bool
@@ -29,13 +29,10 @@ fn value_padded(s: &[u8], i: usize, n: usize) -> bool
 // Whether slot `i`, whose head is `h`, is laid out as an entry's.
 pub fn is_entry(s: &[u8], i: usize, h: Head) -> bool
     requires { ⌜ HasSlot (length (now s)) i ⌝ }
-    requires { ⌜ h ≡ headOf (slot (now s) i) ⌝ }
+    requires { ⌜ h ≡ headOf (slot (now s) i) (countOf (now s) i) ⌝ }
     ensures { λ r. ⌜ Decides r (IsEntry (now (s .entry)) i) ⌝ }
 {
     if !h.live {
-        return false;
-    }
-    if h.zero != 0 {
         return false;
     }
     let k = h.key_length;
@@ -73,7 +70,7 @@ pub fn is_free(s: &[u8], i: usize) -> bool
     if h.value_length != 0 {
         return false;
     }
-    if h.zero != 0 {
+    if h.count != 0 {
         return false;
     }
     let k = slots::key_at(s.len(), i);

@@ -1,15 +1,15 @@
--- The lens laws: a header, a slot or a digest that is put in place is read back, and all the rest stays.
+-- The lens laws: a header, a slot, a count or a digest that is put in place is read back, and all the rest stays.
 use mathlib.Core.Path.{_≡_, refl, sym, ap, subst, _∙_}
 use mathlib.Core.List.{List, [], _∷_}
-use Prim.Native.Nat.{ℕ, _/_, _%_, _^_, _≤_}
+use Prim.Native.Nat.{ℕ, _/_, _%_, _^_, _≤_, _<_}
 use native.Mathlib.Nat.{mod-lt}
 use native.Mathlib.Omega.{arith}
 use lib.Dec.{lit<}
-use lib.ListN.{length}
+use lib.ListN.{length, getD}
 use Rattle.runs.specs.Bits.{joined, fields, recut, Fit, octets, Bytes}
 use Rattle.slots.specs.declared.Header.{Header}
-use Rattle.slots.specs.Layout.{HasSlot, Room, TheHeader, HeadOf, KeyOf, ValueOf, DigestOf, room, headerWidths, headerValues, headerFrom, header, HeaderFits, Slot, headWidths, headValues, slotFrom, slot, SlotFits, digestOf}
-use Rattle.slots.specs.Setters.{putRoom, setHeader, setSlot, setDigest}
+use Rattle.slots.specs.Layout.{HasSlot, Room, TheHeader, HeadOf, KeyOf, ValueOf, DigestOf, room, headerWidths, headerValues, headerFrom, header, HeaderFits, Slot, headWidths, headValues, slotFrom, slot, SlotFits, countOf, digestOf, markOf}
+use Rattle.slots.specs.Setters.{putRoom, setHeader, setSlotAs, setDigest}
 use Rattle.runs.proofs.Recut.{recut-fit, recut-back, fit-length, bytes-fit, fit-bytes, flag-bit, bit-flag, bit-lt}
 use Rattle.slots.proofs.Rooms.{Within, Other, room-length, bytes-room, length-putRoom, bytes-putRoom, room-same, room-other, room-id}
 
@@ -30,10 +30,13 @@ slot-fits s i p =
       right = f .1 .0;
       keyLength = f .1 .1 .0;
       valueLength = f .1 .1 .1 .0;
-      zero = f .1 .1 .1 .1 .0;
       keyRoom = room-length s (KeyOf i) p;
       valueRoom = room-length s (ValueOf i) p;
     }
+
+pub count-fits : (s : List ℕ) (i : ℕ) → countOf s i < 2048
+unfolding countOf recut fields
+count-fits s i = recut-fit (octets 6) headWidths (room s (HeadOf i)) .1 .1 .1 .1 .1 .1 .0
 
 pub digest-length : (s : List ℕ) (i : ℕ) → HasSlot (length s) i → length (digestOf s i) ≡ 32
 unfolding digestOf
@@ -44,11 +47,11 @@ digest-length s i p = room-length s (DigestOf i) p
 header-fit : {h : Header} → HeaderFits h → Fit headerWidths (headerValues h)
 header-fit f = (f .edition, (f .capacity, (f .live, (f .root, (f .free, (f .zero, tt))))))
 
-head-fit : {v : Slot} → SlotFits v → Fit headWidths (headValues v)
-head-fit {v} f = (bit-lt (v .live), (bit-lt (v .red), (f .left, (f .right, (f .keyLength, (f .valueLength, (f .zero, tt)))))))
+head-fit : {v : Slot} {n : ℕ} → SlotFits v → n < 2048 → Fit headWidths (headValues v n)
+head-fit {v} f c = (bit-lt (v .live), (bit-lt (v .red), (f .left, (f .right, (f .keyLength, (f .valueLength, (c, tt)))))))
 
-slot-values : (v : Slot) → slotFrom (headValues v) (v .keyRoom) (v .valueRoom) ≡ v
-slot-values v =
+slot-values : (v : Slot) (n : ℕ) → slotFrom (headValues v n) (v .keyRoom) (v .valueRoom) ≡ v
+slot-values v n =
     λ j.
     record {
       live = flag-bit (v .live) j;
@@ -57,7 +60,6 @@ slot-values v =
       right = v .right;
       keyLength = v .keyLength;
       valueLength = v .valueLength;
-      zero = v .zero;
       keyRoom = v .keyRoom;
       valueRoom = v .valueRoom;
     }
@@ -65,32 +67,41 @@ slot-values v =
 abbrev pub headerBytes : Header → List ℕ
 headerBytes h = recut headerWidths (octets 8) (headerValues h)
 
-abbrev pub headBytes : Slot → List ℕ
-headBytes v = recut headWidths (octets 6) (headValues v)
+abbrev pub headBytes : Slot → (count : ℕ) → List ℕ
+headBytes v n = recut headWidths (octets 6) (headValues v n)
 
 pub header-bytes-length : (h : Header) → length (headerBytes h) ≡ 8
 header-bytes-length h = fit-length (octets 8) (headerBytes h) (recut-fit headerWidths (octets 8) (headerValues h))
 
-pub head-bytes-length : (v : Slot) → length (headBytes v) ≡ 6
-head-bytes-length v = fit-length (octets 6) (headBytes v) (recut-fit headWidths (octets 6) (headValues v))
+pub head-bytes-length : (v : Slot) (n : ℕ) → length (headBytes v n) ≡ 6
+head-bytes-length v n = fit-length (octets 6) (headBytes v n) (recut-fit headWidths (octets 6) (headValues v n))
 
 pub header-bytes-bytes : (h : Header) → Bytes (headerBytes h)
 header-bytes-bytes h = bytes-fit 8 (headerBytes h) (recut-fit headerWidths (octets 8) (headerValues h))
 
-pub head-bytes-bytes : (v : Slot) → Bytes (headBytes v)
-head-bytes-bytes v = bytes-fit 6 (headBytes v) (recut-fit headWidths (octets 6) (headValues v))
+pub head-bytes-bytes : (v : Slot) (n : ℕ) → Bytes (headBytes v n)
+head-bytes-bytes v n = bytes-fit 6 (headBytes v n) (recut-fit headWidths (octets 6) (headValues v n))
 
--- a slot and a header from their rooms, and back
-pub slot-of : (s : List ℕ) (i : ℕ) (v : Slot) → SlotFits v → room s (HeadOf i) ≡ headBytes v → room s (KeyOf i) ≡ v .keyRoom → room s (ValueOf i) ≡ v .valueRoom → slot s i ≡ v
-unfolding slot
-slot-of s i v f a b c =
-    (λ j. slotFrom (recut (octets 6) headWidths (a j)) (b j) (c j))
-    ∙ ap (λ (z : List ℕ). slotFrom z (v .keyRoom) (v .valueRoom)) (recut-back headWidths (octets 6) (headValues v) refl (head-fit f))
-    ∙ slot-values v
+-- a slot, its count and a header from their rooms, and back
+module _ (s : List ℕ) (i : ℕ) (v : Slot) (n : ℕ) (f : SlotFits v) (few : n < 2048) (a : room s (HeadOf i) ≡ headBytes v n) where
+  values-of : recut (octets 6) headWidths (room s (HeadOf i)) ≡ headValues v n
+  values-of = ap (recut (octets 6) headWidths) a ∙ recut-back headWidths (octets 6) (headValues v n) refl (head-fit f few)
+
+  pub slot-of : room s (KeyOf i) ≡ v .keyRoom → room s (ValueOf i) ≡ v .valueRoom → slot s i ≡ v
+  unfolding slot
+  slot-of b c = (λ j. slotFrom (values-of j) (b j) (c j)) ∙ slot-values v n
+
+  pub count-of : countOf s i ≡ n
+  unfolding countOf
+  count-of = ap (λ (z : List ℕ). getD z 6 0) values-of
 
 pub slot-same : (s t : List ℕ) (i : ℕ) → room s (HeadOf i) ≡ room t (HeadOf i) → room s (KeyOf i) ≡ room t (KeyOf i) → room s (ValueOf i) ≡ room t (ValueOf i) → slot s i ≡ slot t i
 unfolding slot
 slot-same s t i a b c = λ j. slotFrom (recut (octets 6) headWidths (a j)) (b j) (c j)
+
+pub mark-same : (s t : List ℕ) (i : ℕ) → room s (HeadOf i) ≡ room t (HeadOf i) → room s (DigestOf i) ≡ room t (DigestOf i) → markOf s i ≡ markOf t i
+unfolding countOf digestOf
+mark-same s t i a b = λ j. record { count = getD (recut (octets 6) headWidths (a j)) 6 0; digest = b j }
 
 pub header-of : (s : List ℕ) (h : Header) → HeaderFits h → room s TheHeader ≡ headerBytes h → header s ≡ h
 unfolding header
@@ -107,18 +118,18 @@ header-room s b p =
     let f : Fit (octets 8) (room s TheHeader) = fit-bytes 8 (room s TheHeader) (room-length s TheHeader p) b in
     sym (unfold recut fields in recut-back (octets 8) headerWidths (room s TheHeader) refl f)
 
-head-values : (h : ℕ) (k w : List ℕ) → headValues (slotFrom (fields headWidths h) k w) ≡ fields headWidths h
+head-values : (h : ℕ) (k w : List ℕ) → headValues (slotFrom (fields headWidths h) k w) (getD (fields headWidths h) 6 0) ≡ fields headWidths h
 unfolding fields
 head-values h k w =
     λ j.
     bit-flag (h / 2 ^ 47 % 2) (mod-lt (h / 2 ^ 47) (lit< tt)) j ∷ bit-flag (h / 2 ^ 46 % 2) (mod-lt (h / 2 ^ 46) (lit< tt)) j ∷ h / 2 ^ 35 % 2 ^ 11 ∷ h / 2 ^ 24 % 2 ^ 11
     ∷ h / 2 ^ 18 % 2 ^ 6 ∷ h / 2 ^ 11 % 2 ^ 7 ∷ h / 2 ^ 0 % 2 ^ 11 ∷ []
 
-slot-head : (s : List ℕ) (i : ℕ) → headValues (slot s i) ≡ recut (octets 6) headWidths (room s (HeadOf i))
-unfolding slot recut
+slot-head : (s : List ℕ) (i : ℕ) → headValues (slot s i) (countOf s i) ≡ recut (octets 6) headWidths (room s (HeadOf i))
+unfolding slot countOf recut
 slot-head s i = head-values (joined (octets 6) (room s (HeadOf i))) (room s (KeyOf i)) (room s (ValueOf i))
 
-pub head-room : (s : List ℕ) (i : ℕ) → Bytes (room s (HeadOf i)) → HasSlot (length s) i → room s (HeadOf i) ≡ headBytes (slot s i)
+pub head-room : (s : List ℕ) (i : ℕ) → Bytes (room s (HeadOf i)) → HasSlot (length s) i → room s (HeadOf i) ≡ headBytes (slot s i) (countOf s i)
 head-room s i b p =
     let xs : List ℕ = room s (HeadOf i) in
     let f : Fit (octets 6) xs = fit-bytes 6 xs (room-length s (HeadOf i) p) b in
@@ -147,9 +158,8 @@ module _ (s : List ℕ) (h : Header) where
     slot-setHeader j q =
         slot-same (setHeader s h) s j (off-header (HeadOf j) q (λ a b. omega arith)) (off-header (KeyOf j) q (λ a b. omega arith)) (off-header (ValueOf j) q (λ a b. omega arith))
 
-    pub digest-setHeader : (j : ℕ) → HasSlot (length s) j → digestOf (setHeader s h) j ≡ digestOf s j
-    unfolding digestOf
-    digest-setHeader j q = off-header (DigestOf j) q (λ a b. omega arith)
+    pub mark-setHeader : (j : ℕ) → HasSlot (length s) j → markOf (setHeader s h) j ≡ markOf s j
+    mark-setHeader j q = mark-same (setHeader s h) s j (off-header (HeadOf j) q (λ a b. omega arith)) (off-header (DigestOf j) q (λ a b. omega arith))
 
 -- ---- a digest put in place
 
@@ -163,17 +173,23 @@ module _ (s : List ℕ) (i : ℕ) (d : List ℕ) where
   bytes-setDigest b c = bytes-putRoom s (DigestOf i) d b c
 
   module _ (p : HasSlot (length s) i) (e : length d ≡ 32) where
-    pub digest-setDigest : digestOf (setDigest s i d) i ≡ d
+    here-digest : digestOf (setDigest s i d) i ≡ d
     unfolding digestOf setDigest
-    digest-setDigest = room-same s (DigestOf i) d p e
+    here-digest = room-same s (DigestOf i) d p e
 
     off-digest : (t : Room) → Within (length s) t → Other (DigestOf i) t → room (setDigest s i d) t ≡ room s t
     unfolding setDigest
     off-digest t q o = room-other s (DigestOf i) d p e t q o
 
-    pub digest-setDigest-other : (j : ℕ) → HasSlot (length s) j → (j ≡ i → ⊥) → digestOf (setDigest s i d) j ≡ digestOf s j
-    unfolding digestOf
-    digest-setDigest-other j q ne = off-digest (DigestOf j) q (λ a b. ne (sym b))
+    stays-count : countOf (setDigest s i d) i ≡ countOf s i
+    unfolding countOf
+    stays-count = ap (λ (z : List ℕ). getD (recut (octets 6) headWidths z) 6 0) (off-digest (HeadOf i) p (λ a b. omega arith))
+
+    pub mark-setDigest : markOf (setDigest s i d) i ≡ record { count = countOf s i; digest = d }
+    mark-setDigest = λ j. record { count = stays-count j; digest = here-digest j }
+
+    pub mark-setDigest-other : (j : ℕ) → HasSlot (length s) j → (j ≡ i → ⊥) → markOf (setDigest s i d) j ≡ markOf s j
+    mark-setDigest-other j q ne = mark-same (setDigest s i d) s j (off-digest (HeadOf j) q (λ a b. omega arith)) (off-digest (DigestOf j) q (λ a b. ne (sym b)))
 
     pub slot-setDigest : (j : ℕ) → HasSlot (length s) j → slot (setDigest s i d) j ≡ slot s j
     slot-setDigest j q =
@@ -182,82 +198,85 @@ module _ (s : List ℕ) (i : ℕ) (d : List ℕ) where
     pub header-setDigest : header (setDigest s i d) ≡ header s
     header-setDigest = header-same (setDigest s i d) s (off-digest TheHeader (omega arith) (λ a b. omega arith))
 
--- ---- a slot put in place
+-- ---- a slot put in place, with a count
 
-module _ (s : List ℕ) (i : ℕ) (v : Slot) where
+module _ (s : List ℕ) (i : ℕ) (v : Slot) (n : ℕ) where
   abbrev s1 : List ℕ
-  s1 = putRoom s (HeadOf i) (headBytes v)
+  s1 = putRoom s (HeadOf i) (headBytes v n)
 
   abbrev s2 : List ℕ
   s2 = putRoom s1 (KeyOf i) (v .keyRoom)
 
   l1 : length s1 ≡ length s
-  l1 = length-putRoom s (HeadOf i) (headBytes v)
+  l1 = length-putRoom s (HeadOf i) (headBytes v n)
 
   l2 : length s2 ≡ length s
   l2 = length-putRoom s1 (KeyOf i) (v .keyRoom) ∙ l1
 
-  pub length-setSlot : length (setSlot s i v) ≡ length s
-  unfolding setSlot
-  length-setSlot = length-putRoom s2 (ValueOf i) (v .valueRoom) ∙ l2
+  pub length-setSlotAs : length (setSlotAs s i v n) ≡ length s
+  unfolding setSlotAs
+  length-setSlotAs = length-putRoom s2 (ValueOf i) (v .valueRoom) ∙ l2
 
-  pub bytes-setSlot : Bytes s → Bytes (v .keyRoom) → Bytes (v .valueRoom) → Bytes (setSlot s i v)
-  unfolding setSlot
-  bytes-setSlot b k w =
-      bytes-putRoom s2 (ValueOf i) (v .valueRoom) (bytes-putRoom s1 (KeyOf i) (v .keyRoom) (bytes-putRoom s (HeadOf i) (headBytes v) b (head-bytes-bytes v)) k) w
+  pub bytes-setSlotAs : Bytes s → Bytes (v .keyRoom) → Bytes (v .valueRoom) → Bytes (setSlotAs s i v n)
+  unfolding setSlotAs
+  bytes-setSlotAs b k w =
+      bytes-putRoom s2 (ValueOf i) (v .valueRoom) (bytes-putRoom s1 (KeyOf i) (v .keyRoom) (bytes-putRoom s (HeadOf i) (headBytes v n) b (head-bytes-bytes v n)) k) w
 
-  module _ (p : HasSlot (length s) i) (f : SlotFits v) where
+  module _ (p : HasSlot (length s) i) (f : SlotFits v) (few : n < 2048) where
     to1 : (t : Room) → Within (length s) t → Within (length s1) t
-    to1 t q = subst (λ (n : ℕ). Within n t) (sym l1) q
+    to1 t q = subst (λ (m : ℕ). Within m t) (sym l1) q
 
     to2 : (t : Room) → Within (length s) t → Within (length s2) t
-    to2 t q = subst (λ (n : ℕ). Within n t) (sym l2) q
+    to2 t q = subst (λ (m : ℕ). Within m t) (sym l2) q
 
     at1 : (t : Room) → Within (length s) t → Other (HeadOf i) t → room s1 t ≡ room s t
-    at1 t q o = room-other s (HeadOf i) (headBytes v) p (head-bytes-length v) t q o
+    at1 t q o = room-other s (HeadOf i) (headBytes v n) p (head-bytes-length v n) t q o
 
     at2 : (t : Room) → Within (length s) t → Other (KeyOf i) t → room s2 t ≡ room s1 t
     at2 t q o = room-other s1 (KeyOf i) (v .keyRoom) (to1 (KeyOf i) p) (f .keyRoom) t (to1 t q) o
 
-    at3 : (t : Room) → Within (length s) t → Other (ValueOf i) t → room (setSlot s i v) t ≡ room s2 t
-    unfolding setSlot
+    at3 : (t : Room) → Within (length s) t → Other (ValueOf i) t → room (setSlotAs s i v n) t ≡ room s2 t
+    unfolding setSlotAs
     at3 t q o = room-other s2 (ValueOf i) (v .valueRoom) (to2 (ValueOf i) p) (f .valueRoom) t (to2 t q) o
 
-    off-slot : (t : Room) → Within (length s) t → Other (HeadOf i) t → Other (KeyOf i) t → Other (ValueOf i) t → room (setSlot s i v) t ≡ room s t
+    off-slot : (t : Room) → Within (length s) t → Other (HeadOf i) t → Other (KeyOf i) t → Other (ValueOf i) t → room (setSlotAs s i v n) t ≡ room s t
     off-slot t q a b c = at3 t q c ∙ at2 t q b ∙ at1 t q a
 
-    pub slot-setSlot : slot (setSlot s i v) i ≡ v
-    slot-setSlot =
-        slot-of (setSlot s i v) i v f
-        (at3 (HeadOf i) p (λ a b. omega arith) ∙ at2 (HeadOf i) p (λ a b. omega arith) ∙ room-same s (HeadOf i) (headBytes v) p (head-bytes-length v))
-        (at3 (KeyOf i) p (λ a b. omega arith) ∙ room-same s1 (KeyOf i) (v .keyRoom) (to1 (KeyOf i) p) (f .keyRoom))
-        (unfold setSlot in room-same s2 (ValueOf i) (v .valueRoom) (to2 (ValueOf i) p) (f .valueRoom))
+    head-here : room (setSlotAs s i v n) (HeadOf i) ≡ headBytes v n
+    head-here = at3 (HeadOf i) p (λ a b. omega arith) ∙ at2 (HeadOf i) p (λ a b. omega arith) ∙ room-same s (HeadOf i) (headBytes v n) p (head-bytes-length v n)
 
-    pub slot-setSlot-other : (j : ℕ) → HasSlot (length s) j → (j ≡ i → ⊥) → slot (setSlot s i v) j ≡ slot s j
-    slot-setSlot-other j q ne =
-        slot-same (setSlot s i v) s j
+    pub slot-setSlotAs : slot (setSlotAs s i v n) i ≡ v
+    slot-setSlotAs =
+        slot-of (setSlotAs s i v n) i v n f few head-here
+        (at3 (KeyOf i) p (λ a b. omega arith) ∙ room-same s1 (KeyOf i) (v .keyRoom) (to1 (KeyOf i) p) (f .keyRoom))
+        (unfold setSlotAs in room-same s2 (ValueOf i) (v .valueRoom) (to2 (ValueOf i) p) (f .valueRoom))
+
+    pub slot-setSlotAs-other : (j : ℕ) → HasSlot (length s) j → (j ≡ i → ⊥) → slot (setSlotAs s i v n) j ≡ slot s j
+    slot-setSlotAs-other j q ne =
+        slot-same (setSlotAs s i v n) s j
         (off-slot (HeadOf j) q (λ a b. ne (sym b)) (λ a b. omega arith) (λ a b. omega arith))
         (off-slot (KeyOf j) q (λ a b. omega arith) (λ a b. ne (sym b)) (λ a b. omega arith))
         (off-slot (ValueOf j) q (λ a b. omega arith) (λ a b. omega arith) (λ a b. ne (sym b)))
 
-    pub digest-setSlot : (j : ℕ) → HasSlot (length s) j → digestOf (setSlot s i v) j ≡ digestOf s j
-    unfolding digestOf
-    digest-setSlot j q = off-slot (DigestOf j) q (λ a b. omega arith) (λ a b. omega arith) (λ a b. omega arith)
+    digest-stays : (j : ℕ) → HasSlot (length s) j → room (setSlotAs s i v n) (DigestOf j) ≡ room s (DigestOf j)
+    digest-stays j q = off-slot (DigestOf j) q (λ a b. omega arith) (λ a b. omega arith) (λ a b. omega arith)
 
-    pub header-setSlot : header (setSlot s i v) ≡ header s
-    header-setSlot = header-same (setSlot s i v) s (off-slot TheHeader (omega arith) (λ a b. omega arith) (λ a b. omega arith) (λ a b. omega arith))
+    pub mark-setSlotAs : markOf (setSlotAs s i v n) i ≡ record { count = n; digest = digestOf s i }
+    unfolding digestOf
+    mark-setSlotAs = λ j. record { count = count-of (setSlotAs s i v n) i v n f few head-here j; digest = digest-stays i p j }
+
+    pub mark-setSlotAs-other : (j : ℕ) → HasSlot (length s) j → (j ≡ i → ⊥) → markOf (setSlotAs s i v n) j ≡ markOf s j
+    mark-setSlotAs-other j q ne = mark-same (setSlotAs s i v n) s j (off-slot (HeadOf j) q (λ a b. ne (sym b)) (λ a b. omega arith) (λ a b. omega arith)) (digest-stays j q)
+
+    pub header-setSlotAs : header (setSlotAs s i v n) ≡ header s
+    header-setSlotAs = header-same (setSlotAs s i v n) s (off-slot TheHeader (omega arith) (λ a b. omega arith) (λ a b. omega arith) (λ a b. omega arith))
 
 -- a slot whose rooms stay is written by its head alone
-pub set-head-is : (s : List ℕ) (i : ℕ) (v : Slot) → HasSlot (length s) i → v .keyRoom ≡ slot s i .keyRoom → v .valueRoom ≡ slot s i .valueRoom → setSlot s i v ≡ putRoom s (HeadOf i) (headBytes v)
-unfolding setSlot slot
-set-head-is s i v p ek ew =
-    let s1 : List ℕ = putRoom s (HeadOf i) (headBytes v) in
-    let q : HasSlot (length s1) i = subst (λ (n : ℕ). HasSlot n i) (sym (length-putRoom s (HeadOf i) (headBytes v))) p in
-    let k : v .keyRoom ≡ room s1 (KeyOf i) = ek ∙ sym (room-other s (HeadOf i) (headBytes v) p (head-bytes-length v) (KeyOf i) p (λ a b. omega arith)) in
-    let w : v .valueRoom ≡ room s1 (ValueOf i) = ew ∙ sym (room-other s (HeadOf i) (headBytes v) p (head-bytes-length v) (ValueOf i) p (λ a b. omega arith)) in
+pub set-head-is : (s : List ℕ) (i : ℕ) (v : Slot) (n : ℕ) → HasSlot (length s) i → v .keyRoom ≡ slot s i .keyRoom → v .valueRoom ≡ slot s i .valueRoom → setSlotAs s i v n ≡ putRoom s (HeadOf i) (headBytes v n)
+unfolding setSlotAs slot
+set-head-is s i v n p ek ew =
+    let s1 : List ℕ = putRoom s (HeadOf i) (headBytes v n) in
+    let q : HasSlot (length s1) i = subst (λ (m : ℕ). HasSlot m i) (sym (length-putRoom s (HeadOf i) (headBytes v n))) p in
+    let k : v .keyRoom ≡ room s1 (KeyOf i) = ek ∙ sym (room-other s (HeadOf i) (headBytes v n) p (head-bytes-length v n) (KeyOf i) p (λ a b. omega arith)) in
+    let w : v .valueRoom ≡ room s1 (ValueOf i) = ew ∙ sym (room-other s (HeadOf i) (headBytes v n) p (head-bytes-length v n) (ValueOf i) p (λ a b. omega arith)) in
     ap (λ (z : List ℕ). putRoom z (ValueOf i) (v .valueRoom)) (ap (putRoom s1 (KeyOf i)) k ∙ room-id s1 (KeyOf i) q) ∙ ap (putRoom s1 (ValueOf i)) w ∙ room-id s1 (ValueOf i) q
-
--- a slot put where it is changes nothing
-pub setSlot-same : (s : List ℕ) (i : ℕ) → Bytes s → HasSlot (length s) i → setSlot s i (slot s i) ≡ s
-setSlot-same s i b p =
-    set-head-is s i (slot s i) p refl refl ∙ ap (putRoom s (HeadOf i)) (sym (head-room s i (bytes-room s (HeadOf i) b) p)) ∙ room-id s (HeadOf i) p

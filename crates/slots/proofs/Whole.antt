@@ -1,4 +1,4 @@
--- Whole stores: a store is determined by its header, slots and digests, and is the bytes put together from them.
+-- Whole stores: a store is determined by its header, slots and marks, and is the bytes put together from them.
 use mathlib.Core.Path.{_≡_, refl, sym, ap, subst, _∙_}
 use mathlib.Core.Logic.{_⊎_, ⊎-elim}
 use mathlib.Core.List.{List}
@@ -9,11 +9,11 @@ use lib.ListN.{length}
 use Rattle.runs.specs.Bits.{Bytes}
 use Rattle.slots.specs.declared.Header.{Header}
 use Rattle.slots.specs.Limits.{storeLength}
-use Rattle.slots.specs.Layout.{HasSlot, Room, TheHeader, HeadOf, KeyOf, ValueOf, DigestOf, room, header, HeaderFits, Slot, slot, SlotFits, digestOf}
+use Rattle.slots.specs.Layout.{HasSlot, Room, TheHeader, HeadOf, KeyOf, ValueOf, DigestOf, room, header, HeaderFits, Slot, slot, SlotFits, Mark, countOf, digestOf, markOf}
 use Rattle.runs.specs.Runs.{zeros}
-use Rattle.slots.specs.Setters.{setHeader, setSlot, setDigest, withSlots, bytesOf}
+use Rattle.slots.specs.Setters.{setHeader, setSlotAs, setDigest, withSlots, bytesOf}
 use Rattle.slots.proofs.Rooms.{Within, bytes-room, same-rooms}
-use Rattle.slots.proofs.Lenses.{headerBytes, headBytes, header-room, head-room, header-fits, slot-fits, digest-length, length-setHeader, bytes-setHeader, header-setHeader, slot-setHeader, digest-setHeader, length-setDigest, bytes-setDigest, digest-setDigest, digest-setDigest-other, slot-setDigest, length-setSlot, bytes-setSlot, slot-setSlot, slot-setSlot-other, digest-setSlot}
+use Rattle.slots.proofs.Lenses.{headerBytes, headBytes, header-room, head-room, header-fits, slot-fits, count-fits, digest-length, length-setHeader, bytes-setHeader, header-setHeader, slot-setHeader, mark-setHeader, length-setDigest, bytes-setDigest, mark-setDigest, mark-setDigest-other, slot-setDigest, length-setSlotAs, bytes-setSlotAs, slot-setSlotAs, slot-setSlotAs-other, mark-setSlotAs, mark-setSlotAs-other}
 use Rattle.runs.proofs.Padding.{length-zeros, bytes-zeros}
 use Rattle.slots.proofs.Writing.{bytes-key, bytes-value, bytes-digest}
 
@@ -40,75 +40,88 @@ unfolding digestOf
 digest-room s i = refl
 
 module _ (cap : ℕ) (s t : List ℕ) (few : cap < 2048) (bs : Bytes s) (bt : Bytes t) (ls : length s ≡ storeLength cap) (lt : length t ≡ storeLength cap)
-    (h : header s ≡ header t) (v : Each cap (λ i. slot s i ≡ slot t i)) (d : Each cap (λ i. digestOf s i ≡ digestOf t i)) where
+    (h : header s ≡ header t) (v : Each cap (λ i. slot s i ≡ slot t i)) (d : Each cap (λ i. markOf s i ≡ markOf t i)) where
   each : (r : Room) → Within (storeLength cap) r → room s r ≡ room t r
   each TheHeader w =
       header-room s (bytes-room s TheHeader bs) (omega arith) ∙ ap headerBytes h ∙ sym (header-room t (bytes-room t TheHeader bt) (omega arith))
   each (HeadOf i) w =
-      head-room s i (bytes-room s (HeadOf i) bs) (rw ls w) ∙ ap headBytes (v i (w .low) (omega arith)) ∙ sym (head-room t i (bytes-room t (HeadOf i) bt) (rw lt w))
+      head-room s i (bytes-room s (HeadOf i) bs) (rw ls w) ∙ (λ j. headBytes (v i (w .low) (omega arith) j) (d i (w .low) (omega arith) j .count)) ∙ sym (head-room t i (bytes-room t (HeadOf i) bt) (rw lt w))
   each (KeyOf i) w = sym (key-room s i) ∙ ap (λ (z : Slot). z .keyRoom) (v i (w .low) (omega arith)) ∙ key-room t i
   each (ValueOf i) w = sym (value-room s i) ∙ ap (λ (z : Slot). z .valueRoom) (v i (w .low) (omega arith)) ∙ value-room t i
-  each (DigestOf i) w = sym (digest-room s i) ∙ d i (w .low) (omega arith) ∙ digest-room t i
+  each (DigestOf i) w = sym (digest-room s i) ∙ ap (λ (m : Mark). m .digest) (d i (w .low) (omega arith)) ∙ digest-room t i
 
   pub same-store : s ≡ t
   same-store = same-rooms cap s t few ls lt each
 
 -- ---- a store put together
 
-module _ (f : ℕ → Slot) (d : ℕ → List ℕ) where
+-- what a slot and its mark have to be to be put in place
+pub record MarkFits (m : Mark) : Type 0 where
+  pub count : m .count < 2048
+  pub digest : length (m .digest) ≡ 32
+
+module _ (f : ℕ → Slot) (d : ℕ → Mark) where
+  -- the store before slot n + 1 is put in place, and with its slot and count but not its digest
+  abbrev before : ℕ → List ℕ → List ℕ
+  before n s = withSlots n f d s
+
+  abbrev between : ℕ → List ℕ → List ℕ
+  between n s = setSlotAs (before n s) (suc n) (f (suc n)) (d (suc n) .count)
+
   length-withSlots : (n : ℕ) (s : List ℕ) → length (withSlots n f d s) ≡ length s
   unfolding withSlots
   length-withSlots zero s = refl
   length-withSlots (suc n) s =
-      length-setDigest (setSlot (withSlots n f d s) (suc n) (f (suc n))) (suc n) (d (suc n)) ∙ length-setSlot (withSlots n f d s) (suc n) (f (suc n)) ∙ length-withSlots n s
+      length-setDigest (between n s) (suc n) (d (suc n) .digest) ∙ length-setSlotAs (before n s) (suc n) (f (suc n)) (d (suc n) .count) ∙ length-withSlots n s
 
-  bytes-withSlots : (n : ℕ) (s : List ℕ) → Bytes s → Each n (λ i. Bytes (f i .keyRoom)) → Each n (λ i. Bytes (f i .valueRoom)) → Each n (λ i. Bytes (d i)) → Bytes (withSlots n f d s)
+  bytes-withSlots : (n : ℕ) (s : List ℕ) → Bytes s → Each n (λ i. Bytes (f i .keyRoom)) → Each n (λ i. Bytes (f i .valueRoom)) → Each n (λ i. Bytes (d i .digest)) → Bytes (withSlots n f d s)
   unfolding withSlots
   bytes-withSlots zero s b x y z = b
   bytes-withSlots (suc n) s b x y z =
-      bytes-setDigest (setSlot (withSlots n f d s) (suc n) (f (suc n))) (suc n) (d (suc n))
-      (bytes-setSlot (withSlots n f d s) (suc n) (f (suc n)) (bytes-withSlots n s b (λ i p q. x i p (omega arith)) (λ i p q. y i p (omega arith)) (λ i p q. z i p (omega arith))) (x (suc n) (omega arith) (omega arith)) (y (suc n) (omega arith) (omega arith)))
+      bytes-setDigest (between n s) (suc n) (d (suc n) .digest)
+      (bytes-setSlotAs (before n s) (suc n) (f (suc n)) (d (suc n) .count) (bytes-withSlots n s b (λ i p q. x i p (omega arith)) (λ i p q. y i p (omega arith)) (λ i p q. z i p (omega arith))) (x (suc n) (omega arith) (omega arith)) (y (suc n) (omega arith) (omega arith)))
       (z (suc n) (omega arith) (omega arith))
 
-  module _ (cap : ℕ) (s : List ℕ) (few : cap < 2048) (long : storeLength cap ≤ length s) (ok : Each cap (λ i. SlotFits (f i))) (wide : Each cap (λ i. length (d i) ≡ 32)) where
-    -- the store before slot n + 1 is put in place, and with its slot but not its digest
-    abbrev before : ℕ → List ℕ
-    before n = withSlots n f d s
+  module _ (cap : ℕ) (s : List ℕ) (few : cap < 2048) (long : storeLength cap ≤ length s) (ok : Each cap (λ i. SlotFits (f i))) (wide : Each cap (λ i. MarkFits (d i))) where
+    has0 : (n i : ℕ) → 1 ≤ i → i ≤ cap → HasSlot (length (before n s)) i
+    has0 n i a b = has-slot cap (length (before n s)) i few (rw (length-withSlots n s) long) a b
 
-    abbrev between : ℕ → List ℕ
-    between n = setSlot (before n) (suc n) (f (suc n))
+    has1 : (n i : ℕ) → 1 ≤ i → i ≤ cap → HasSlot (length (between n s)) i
+    has1 n i a b = subst (λ (m : ℕ). HasSlot m i) (sym (length-setSlotAs (before n s) (suc n) (f (suc n)) (d (suc n) .count))) (has0 n i a b)
 
-    has0 : (n i : ℕ) → 1 ≤ i → i ≤ cap → HasSlot (length (before n)) i
-    has0 n i a b = has-slot cap (length (before n)) i few (rw (length-withSlots n s) long) a b
-
-    has1 : (n i : ℕ) → 1 ≤ i → i ≤ cap → HasSlot (length (between n)) i
-    has1 n i a b = subst (λ (m : ℕ). HasSlot m i) (sym (length-setSlot (before n) (suc n) (f (suc n)))) (has0 n i a b)
-
-    slot-withSlots : (n : ℕ) → n ≤ cap → Each n (λ i. slot (before n) i ≡ f i)
+    slot-withSlots : (n : ℕ) → n ≤ cap → Each n (λ i. slot (before n s) i ≡ f i)
     unfolding withSlots
     slot-withSlots zero p i a b = absurd (omega arith)
-    slot-withSlots (suc n) p i a b = slot-setDigest (between n) (suc n) (d (suc n)) (has1 n (suc n) (omega arith) p) (wide (suc n) (omega arith) p) i (has1 n i a (omega arith)) ∙ go (slot-withSlots n (omega arith)) (eq-or-lt-of-le b)
+    slot-withSlots (suc n) p i a b = slot-setDigest (between n s) (suc n) (d (suc n) .digest) (has1 n (suc n) (omega arith) p) (wide (suc n) (omega arith) p .digest) i (has1 n i a (omega arith)) ∙ go (slot-withSlots n (omega arith)) (eq-or-lt-of-le b)
       where
-        here : HasSlot (length (before n)) (suc n)
+        here : HasSlot (length (before n s)) (suc n)
         here = has0 n (suc n) (omega arith) p
 
-        go : Each n (λ j. slot (before n) j ≡ f j) → (i ≡ suc n) ⊎ (i < suc n) → slot (between n) i ≡ f i
+        go : Each n (λ j. slot (before n s) j ≡ f j) → (i ≡ suc n) ⊎ (i < suc n) → slot (between n s) i ≡ f i
         go r = ⊎-elim
-            (λ (e : i ≡ suc n). ap (slot (between n)) e ∙ slot-setSlot (before n) (suc n) (f (suc n)) here (ok (suc n) (omega arith) p) ∙ ap f (sym e))
-            (λ (l : i < suc n). slot-setSlot-other (before n) (suc n) (f (suc n)) here (ok (suc n) (omega arith) p) i (has0 n i a (omega arith)) (λ e. omega arith) ∙ r i a (omega arith))
+            (λ (e : i ≡ suc n). ap (slot (between n s)) e ∙ slot-setSlotAs (before n s) (suc n) (f (suc n)) (d (suc n) .count) here (ok (suc n) (omega arith) p) (wide (suc n) (omega arith) p .count) ∙ ap f (sym e))
+            (λ (l : i < suc n). slot-setSlotAs-other (before n s) (suc n) (f (suc n)) (d (suc n) .count) here (ok (suc n) (omega arith) p) (wide (suc n) (omega arith) p .count) i (has0 n i a (omega arith)) (λ e. omega arith) ∙ r i a (omega arith))
 
-    digest-withSlots : (n : ℕ) → n ≤ cap → Each n (λ i. digestOf (before n) i ≡ d i)
+    mark-withSlots : (n : ℕ) → n ≤ cap → Each n (λ i. markOf (before n s) i ≡ d i)
     unfolding withSlots
-    digest-withSlots zero p i a b = absurd (omega arith)
-    digest-withSlots (suc n) p i a b = go (digest-withSlots n (omega arith)) (eq-or-lt-of-le b)
+    mark-withSlots zero p i a b = absurd (omega arith)
+    mark-withSlots (suc n) p i a b = go (mark-withSlots n (omega arith)) (eq-or-lt-of-le b)
       where
-        go : Each n (λ j. digestOf (before n) j ≡ d j) → (i ≡ suc n) ⊎ (i < suc n) → digestOf (setDigest (between n) (suc n) (d (suc n))) i ≡ d i
-        go r = ⊎-elim
-            (λ (e : i ≡ suc n). ap (digestOf (setDigest (between n) (suc n) (d (suc n)))) e ∙ digest-setDigest (between n) (suc n) (d (suc n)) (has1 n (suc n) (omega arith) p) (wide (suc n) (omega arith) p) ∙ ap d (sym e))
-            (λ (l : i < suc n). digest-setDigest-other (between n) (suc n) (d (suc n)) (has1 n (suc n) (omega arith) p) (wide (suc n) (omega arith) p) i (has1 n i a (omega arith)) (λ e. omega arith)
-            ∙ digest-setSlot (before n) (suc n) (f (suc n)) (has0 n (suc n) (omega arith) p) (ok (suc n) (omega arith) p) i (has0 n i a (omega arith)) ∙ r i a (omega arith))
+        here : HasSlot (length (before n s)) (suc n)
+        here = has0 n (suc n) (omega arith) p
 
-module _ (h : Header) (cap : ℕ) (f : ℕ → Slot) (d : ℕ → List ℕ) where
+        put : markOf (setDigest (between n s) (suc n) (d (suc n) .digest)) (suc n) ≡ d (suc n)
+        put =
+            mark-setDigest (between n s) (suc n) (d (suc n) .digest) (has1 n (suc n) (omega arith) p) (wide (suc n) (omega arith) p .digest)
+            ∙ (λ j. record { count = mark-setSlotAs (before n s) (suc n) (f (suc n)) (d (suc n) .count) here (ok (suc n) (omega arith) p) (wide (suc n) (omega arith) p .count) j .count; digest = d (suc n) .digest })
+
+        go : Each n (λ j. markOf (before n s) j ≡ d j) → (i ≡ suc n) ⊎ (i < suc n) → markOf (setDigest (between n s) (suc n) (d (suc n) .digest)) i ≡ d i
+        go r = ⊎-elim
+            (λ (e : i ≡ suc n). ap (markOf (setDigest (between n s) (suc n) (d (suc n) .digest))) e ∙ put ∙ ap d (sym e))
+            (λ (l : i < suc n). mark-setDigest-other (between n s) (suc n) (d (suc n) .digest) (has1 n (suc n) (omega arith) p) (wide (suc n) (omega arith) p .digest) i (has1 n i a (omega arith)) (λ e. omega arith)
+            ∙ mark-setSlotAs-other (before n s) (suc n) (f (suc n)) (d (suc n) .count) here (ok (suc n) (omega arith) p) (wide (suc n) (omega arith) p .count) i (has0 n i a (omega arith)) (λ e. omega arith) ∙ r i a (omega arith))
+
+module _ (h : Header) (cap : ℕ) (f : ℕ → Slot) (d : ℕ → Mark) where
   abbrev blank : List ℕ
   blank = withSlots cap f d (zeros (storeLength cap))
 
@@ -119,7 +132,7 @@ module _ (h : Header) (cap : ℕ) (f : ℕ → Slot) (d : ℕ → List ℕ) wher
   unfolding bytesOf
   length-bytesOf = length-setHeader blank h ∙ length-blank
 
-  pub bytes-bytesOf : Each cap (λ i. Bytes (f i .keyRoom)) → Each cap (λ i. Bytes (f i .valueRoom)) → Each cap (λ i. Bytes (d i)) → Bytes (bytesOf h cap f d)
+  pub bytes-bytesOf : Each cap (λ i. Bytes (f i .keyRoom)) → Each cap (λ i. Bytes (f i .valueRoom)) → Each cap (λ i. Bytes (d i .digest)) → Bytes (bytesOf h cap f d)
   unfolding bytesOf
   bytes-bytesOf x y z = bytes-setHeader blank h (bytes-withSlots f d cap (zeros (storeLength cap)) (bytes-zeros (storeLength cap)) x y z)
 
@@ -127,7 +140,7 @@ module _ (h : Header) (cap : ℕ) (f : ℕ → Slot) (d : ℕ → List ℕ) wher
   unfolding bytesOf
   header-bytesOf p = header-setHeader blank h (omega (arith, length-blank)) p
 
-  module _ (few : cap < 2048) (ok : Each cap (λ i. SlotFits (f i))) (wide : Each cap (λ i. length (d i) ≡ 32)) where
+  module _ (few : cap < 2048) (ok : Each cap (λ i. SlotFits (f i))) (wide : Each cap (λ i. MarkFits (d i))) where
     roomy : storeLength cap ≤ length (zeros (storeLength cap))
     roomy = omega (arith, length-zeros (storeLength cap))
 
@@ -137,14 +150,14 @@ module _ (h : Header) (cap : ℕ) (f : ℕ → Slot) (d : ℕ → List ℕ) wher
         slot-setHeader blank h (omega (arith, length-blank)) i (has-slot cap (length blank) i few (omega (arith, length-blank)) a b)
         ∙ slot-withSlots f d cap (zeros (storeLength cap)) few roomy ok wide cap (omega arith) i a b
 
-    pub digest-bytesOf : Each cap (λ i. digestOf (bytesOf h cap f d) i ≡ d i)
+    pub mark-bytesOf : Each cap (λ i. markOf (bytesOf h cap f d) i ≡ d i)
     unfolding bytesOf
-    digest-bytesOf i a b =
-        digest-setHeader blank h (omega (arith, length-blank)) i (has-slot cap (length blank) i few (omega (arith, length-blank)) a b)
-        ∙ digest-withSlots f d cap (zeros (storeLength cap)) few roomy ok wide cap (omega arith) i a b
+    mark-bytesOf i a b =
+        mark-setHeader blank h (omega (arith, length-blank)) i (has-slot cap (length blank) i few (omega (arith, length-blank)) a b)
+        ∙ mark-withSlots f d cap (zeros (storeLength cap)) few roomy ok wide cap (omega arith) i a b
 
 -- only the slots up to the capacity count
-module _ {f f′ : ℕ → Slot} {d d′ : ℕ → List ℕ} where
+module _ {f f′ : ℕ → Slot} {d d′ : ℕ → Mark} where
   withSlots-same : (n : ℕ) (s : List ℕ) → Each n (λ i. f i ≡ f′ i) → Each n (λ i. d i ≡ d′ i) → withSlots n f d s ≡ withSlots n f′ d′ s
   unfolding withSlots
   withSlots-same zero s x y = refl
@@ -152,7 +165,7 @@ module _ {f f′ : ℕ → Slot} {d d′ : ℕ → List ℕ} where
       let r = withSlots-same n s (λ i p q. x i p (omega arith)) (λ i p q. y i p (omega arith)) in
       let a = x (suc n) (omega arith) (omega arith) in
       let b = y (suc n) (omega arith) (omega arith) in
-      λ j. setDigest (setSlot (r j) (suc n) (a j)) (suc n) (b j)
+      λ j. setDigest (setSlotAs (r j) (suc n) (a j) (b j .count)) (suc n) (b j .digest)
 
   pub bytesOf-same : {h h′ : Header} (cap : ℕ) → h ≡ h′ → Each cap (λ i. f i ≡ f′ i) → Each cap (λ i. d i ≡ d′ i) → bytesOf h cap f d ≡ bytesOf h′ cap f′ d′
   unfolding bytesOf
@@ -164,20 +177,20 @@ module _ (cap : ℕ) (s : List ℕ) (few : cap < 2048) (b : Bytes s) (l : length
   fit : Each cap (λ i. SlotFits (slot s i))
   fit i p q = slot-fits s i (has-slot cap (length s) i few (omega arith) p q)
 
-  wide : Each cap (λ i. length (digestOf s i) ≡ 32)
-  wide i p q = digest-length s i (has-slot cap (length s) i few (omega arith) p q)
+  wide : Each cap (λ i. MarkFits (markOf s i))
+  wide i p q = record { count = count-fits s i; digest = digest-length s i (has-slot cap (length s) i few (omega arith) p q) }
 
-  pub bytesOf-read : bytesOf (header s) cap (slot s) (digestOf s) ≡ s
+  pub bytesOf-read : bytesOf (header s) cap (slot s) (markOf s) ≡ s
   bytesOf-read =
-      same-store cap (bytesOf (header s) cap (slot s) (digestOf s)) s few
-      (bytes-bytesOf (header s) cap (slot s) (digestOf s) (λ i p q. bytes-key s i b) (λ i p q. bytes-value s i b) (λ i p q. bytes-digest s i b))
+      same-store cap (bytesOf (header s) cap (slot s) (markOf s)) s few
+      (bytes-bytesOf (header s) cap (slot s) (markOf s) (λ i p q. bytes-key s i b) (λ i p q. bytes-value s i b) (λ i p q. bytes-digest s i b))
       b
-      (length-bytesOf (header s) cap (slot s) (digestOf s))
+      (length-bytesOf (header s) cap (slot s) (markOf s))
       l
-      (header-bytesOf (header s) cap (slot s) (digestOf s) (header-fits s))
-      (slot-bytesOf (header s) cap (slot s) (digestOf s) few fit wide)
-      (digest-bytesOf (header s) cap (slot s) (digestOf s) few fit wide)
+      (header-bytesOf (header s) cap (slot s) (markOf s) (header-fits s))
+      (slot-bytesOf (header s) cap (slot s) (markOf s) few fit wide)
+      (mark-bytesOf (header s) cap (slot s) (markOf s) few fit wide)
 
-  -- the bytes of a header, slots and digests are the only store that they are read of
-  pub is-bytesOf : (h : Header) (f : ℕ → Slot) (d : ℕ → List ℕ) → header s ≡ h → Each cap (λ i. slot s i ≡ f i) → Each cap (λ i. digestOf s i ≡ d i) → s ≡ bytesOf h cap f d
+  -- the bytes of a header, slots and marks are the only store that they are read of
+  pub is-bytesOf : (h : Header) (f : ℕ → Slot) (d : ℕ → Mark) → header s ≡ h → Each cap (λ i. slot s i ≡ f i) → Each cap (λ i. markOf s i ≡ d i) → s ≡ bytesOf h cap f d
   is-bytesOf h f d eh ef ed = sym bytesOf-read ∙ bytesOf-same cap eh ef ed

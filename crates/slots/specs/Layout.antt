@@ -8,7 +8,7 @@ use lib.ListN.{length, getD, take}
 use Rattle.runs.specs.Bits.{recut, octets, flag, bit}
 pub use Rattle.runs.specs.Runs.{part, CopiesWithin, Decides}
 unfoldable pub use Rattle.runs.specs.Runs.{zeros, padded, numberAt}
-pub use Rattle.slots.specs.Limits.{edition, maxCapacity, maxKey, maxValue, storeLength}
+pub use Rattle.slots.specs.Limits.{current, countIn, maxCapacity, maxKey, maxValue, storeLength}
 use Rattle.slots.specs.declared.Header.{Header}
 use Rattle.slots.specs.declared.Head.{Head}
 
@@ -80,7 +80,7 @@ pub record HeaderFits (h : Header) : Type 0 where
   pub free : h .free < 2048
   pub zero : h .zero < 65536
 
--- ---- slots: all of a slot but its digest
+-- ---- slots: all of a slot but what it says of the subtree below it
 
 pub record Slot : Type 0 where
   pub live : Bool
@@ -89,15 +89,15 @@ pub record Slot : Type 0 where
   pub right : ℕ
   pub keyLength : ℕ
   pub valueLength : ℕ
-  pub zero : ℕ
   pub keyRoom : List ℕ
   pub valueRoom : List ℕ
 
 abbrev pub headWidths : List ℕ
 headWidths = 1 ∷ 1 ∷ 11 ∷ 11 ∷ 6 ∷ 7 ∷ 11 ∷ []
 
-abbrev pub headValues : Slot → List ℕ
-headValues v = bit (v .live) ∷ bit (v .red) ∷ v .left ∷ v .right ∷ v .keyLength ∷ v .valueLength ∷ v .zero ∷ []
+-- the last 11 bits are the count of the subtree
+abbrev pub headValues : Slot → (count : ℕ) → List ℕ
+headValues v n = bit (v .live) ∷ bit (v .red) ∷ v .left ∷ v .right ∷ v .keyLength ∷ v .valueLength ∷ n ∷ []
 
 abbrev pub slotFrom : (head keyRoom valueRoom : List ℕ) → Slot
 slotFrom v k w =
@@ -108,7 +108,6 @@ slotFrom v k w =
       right = getD v 3 0;
       keyLength = getD v 4 0;
       valueLength = getD v 5 0;
-      zero = getD v 6 0;
       keyRoom = k;
       valueRoom = w;
     }
@@ -122,12 +121,26 @@ pub record SlotFits (v : Slot) : Type 0 where
   pub right : v .right < 2048
   pub keyLength : v .keyLength < 64
   pub valueLength : v .valueLength < 128
-  pub zero : v .zero < 2048
   pub keyRoom : length (v .keyRoom) ≡ maxKey
   pub valueRoom : length (v .valueRoom) ≡ maxValue
 
+-- ---- marks: what a slot says of the subtree below it. In the middle of an operation links are right and marks are stale.
+
+pub record Mark : Type 0 where
+  pub count : ℕ
+  pub digest : List ℕ
+
+unfoldable pub countOf : List ℕ → ℕ → ℕ
+countOf s i = getD (recut (octets 6) headWidths (room s (HeadOf i))) 6 0
+
 unfoldable pub digestOf : List ℕ → ℕ → List ℕ
 digestOf s i = room s (DigestOf i)
+
+abbrev pub markOf : List ℕ → ℕ → Mark
+markOf s i = record { count = countOf s i; digest = digestOf s i }
+
+abbrev pub noMark : Mark
+noMark = record { count = 0; digest = zeros 32 }
 
 -- ---- entries and free slots
 
@@ -148,7 +161,6 @@ nodeSlot red key value left right =
       right = right;
       keyLength = length key;
       valueLength = length value;
-      zero = 0;
       keyRoom = padded maxKey key;
       valueRoom = padded maxValue value;
     }
@@ -163,7 +175,6 @@ freeSlot next =
       right = 0;
       keyLength = 0;
       valueLength = 0;
-      zero = 0;
       keyRoom = zeros maxKey;
       valueRoom = zeros maxValue;
     }
@@ -172,20 +183,20 @@ freeSlot next =
 abbrev pub IsEntry : List ℕ → ℕ → Type 0
 IsEntry s i = slot s i ≡ nodeSlot (slot s i .red) (keyOf (slot s i)) (valueOf (slot s i)) (slot s i .left) (slot s i .right)
 
--- slot i is free, its digest zero too
+-- slot i is free, its mark zero too
 abbrev pub IsFree : List ℕ → ℕ → Type 0
-IsFree s i = (slot s i ≡ freeSlot (slot s i .left)) × (digestOf s i ≡ zeros 32)
+IsFree s i = (slot s i ≡ freeSlot (slot s i .left)) × (markOf s i ≡ noMark)
 
 -- ---- for the code
 
--- the head of a slot as the code's struct
-abbrev pub headOf : Slot → Head
-headOf v =
-    record { live = v .live; red = v .red; left = v .left; right = v .right; «key_length» = v .keyLength; «value_length» = v .valueLength; zero = v .zero }
+-- the head of a slot, with its count, as the code's struct
+abbrev pub headOf : Slot → (count : ℕ) → Head
+headOf v n =
+    record { live = v .live; red = v .red; left = v .left; right = v .right; «key_length» = v .keyLength; «value_length» = v .valueLength; count = n }
 
 pub record HeadFits (h : Head) : Type 0 where
   pub left : h .left < 2048
   pub right : h .right < 2048
   pub keyLength : h .«key_length» < 64
   pub valueLength : h .«value_length» < 128
-  pub zero : h .zero < 2048
+  pub count : h .count < 2048

@@ -9,23 +9,35 @@ use Rattle.runs.specs.Bits.{recut, octets, Bytes}
 use Rattle.slots.specs.declared.Header.{Header}
 use Rattle.slots.specs.declared.Head.{Head}
 use Rattle.slots.specs.Limits.{maxValue, storeLength}
-use Rattle.slots.specs.Layout.{HasSlot, Room, TheHeader, HeadOf, KeyOf, ValueOf, DigestOf, place, headerWidths, headerValues, header, Slot, headWidths, headValues, slot, digestOf, freeSlot}
+use Rattle.slots.specs.Layout.{HasSlot, Room, TheHeader, HeadOf, KeyOf, ValueOf, DigestOf, place, headerWidths, headerValues, header, Slot, headWidths, headValues, slot, Mark, countOf, markOf, freeSlot}
 use Rattle.runs.specs.Runs.{zeros, padded}
 
 -- s with the bytes of a room
 unfoldable pub putRoom : List ℕ → Room → List ℕ → List ℕ
 putRoom s r bytes = sets s (place (length s) r) bytes
 
--- s with this header, with this slot i, with this digest in slot i
+-- s with this header
 unfoldable pub setHeader : List ℕ → Header → List ℕ
 setHeader s h = putRoom s TheHeader (recut headerWidths (octets 8) (headerValues h))
 
+-- with this slot i and its count
+unfoldable pub setSlotAs : List ℕ → ℕ → Slot → (count : ℕ) → List ℕ
+setSlotAs s i v n =
+    putRoom (putRoom (putRoom s (HeadOf i) (recut headWidths (octets 6) (headValues v n))) (KeyOf i) (v .keyRoom)) (ValueOf i) (v .valueRoom)
+
+-- the count stays
 unfoldable pub setSlot : List ℕ → ℕ → Slot → List ℕ
-setSlot s i v =
-    putRoom (putRoom (putRoom s (HeadOf i) (recut headWidths (octets 6) (headValues v))) (KeyOf i) (v .keyRoom)) (ValueOf i) (v .valueRoom)
+setSlot s i v = setSlotAs s i v (countOf s i)
+
+-- all but the count stays
+unfoldable pub setCount : List ℕ → ℕ → (count : ℕ) → List ℕ
+setCount s i n = setSlotAs s i (slot s i) n
 
 unfoldable pub setDigest : List ℕ → ℕ → List ℕ → List ℕ
 setDigest s i digest = putRoom s (DigestOf i) digest
+
+unfoldable pub setMark : List ℕ → ℕ → Mark → List ℕ
+setMark s i m = setDigest (setCount s i (m .count)) i (m .digest)
 
 -- ---- one field of the header
 
@@ -52,7 +64,6 @@ withRed x v =
       right = v .right;
       keyLength = v .keyLength;
       valueLength = v .valueLength;
-      zero = v .zero;
       keyRoom = v .keyRoom;
       valueRoom = v .valueRoom;
     }
@@ -66,7 +77,6 @@ withLeft x v =
       right = v .right;
       keyLength = v .keyLength;
       valueLength = v .valueLength;
-      zero = v .zero;
       keyRoom = v .keyRoom;
       valueRoom = v .valueRoom;
     }
@@ -80,7 +90,6 @@ withRight x v =
       right = x;
       keyLength = v .keyLength;
       valueLength = v .valueLength;
-      zero = v .zero;
       keyRoom = v .keyRoom;
       valueRoom = v .valueRoom;
     }
@@ -94,7 +103,6 @@ withValue x v =
       right = v .right;
       keyLength = v .keyLength;
       valueLength = length x;
-      zero = v .zero;
       keyRoom = v .keyRoom;
       valueRoom = padded maxValue x;
     }
@@ -109,7 +117,6 @@ withEntryOf u v =
       right = v .right;
       keyLength = u .keyLength;
       valueLength = u .valueLength;
-      zero = v .zero;
       keyRoom = u .keyRoom;
       valueRoom = u .valueRoom;
     }
@@ -124,7 +131,6 @@ withHead h v =
       right = h .right;
       keyLength = h .«key_length»;
       valueLength = h .«value_length»;
-      zero = h .zero;
       keyRoom = v .keyRoom;
       valueRoom = v .valueRoom;
     }
@@ -147,34 +153,34 @@ moveEntry s i j = setSlot s i (withEntryOf (slot s j) (slot s i))
 
 -- slot i cleared: free, with this next free slot
 unfoldable pub clearSlot : List ℕ → (i next : ℕ) → List ℕ
-clearSlot s i next = setDigest (setSlot s i (freeSlot next)) i (zeros 32)
+clearSlot s i next = setDigest (setSlotAs s i (freeSlot next) 0) i (zeros 32)
 
 -- ---- a whole store
 
--- s with the first n slots and their digests put in place
-unfoldable pub withSlots : ℕ → (ℕ → Slot) → (ℕ → List ℕ) → List ℕ → List ℕ
-withSlots zero slots digests s = s
-withSlots (suc n) slots digests s =
-    setDigest (setSlot (withSlots n slots digests s) (suc n) (slots (suc n))) (suc n) (digests (suc n))
+-- s with the first n slots and their marks put in place
+unfoldable pub withSlots : ℕ → (ℕ → Slot) → (ℕ → Mark) → List ℕ → List ℕ
+withSlots zero slots marks s = s
+withSlots (suc n) slots marks s =
+    setDigest (setSlotAs (withSlots n slots marks s) (suc n) (slots (suc n)) (marks (suc n) .count)) (suc n) (marks (suc n) .digest)
 
--- the store with this header, these slots and these digests
-unfoldable pub bytesOf : Header → (capacity : ℕ) → (slots : ℕ → Slot) → (digests : ℕ → List ℕ) → List ℕ
-bytesOf h cap slots digests = setHeader (withSlots cap slots digests (zeros (storeLength cap))) h
+-- the store with this header, these slots and these marks
+unfoldable pub bytesOf : Header → (capacity : ℕ) → (slots : ℕ → Slot) → (marks : ℕ → Mark) → List ℕ
+bytesOf h cap slots marks = setHeader (withSlots cap slots marks (zeros (storeLength cap))) h
 
 -- ---- what a change keeps
 
--- the length, the header, and every slot and digest but of slots that P holds of; bytes stay bytes
+-- the length, the header, and every slot and mark but of slots that P holds of; bytes stay bytes
 pub record Keeps (P : ℕ → Type 0) (s s′ : List ℕ) : Type 0 where
   pub len : length s′ ≡ length s
   pub head : header s′ ≡ header s
   pub slots : (j : ℕ) → HasSlot (length s) j → (P j → ⊥) → slot s′ j ≡ slot s j
-  pub digests : (j : ℕ) → HasSlot (length s) j → (P j → ⊥) → digestOf s′ j ≡ digestOf s j
+  pub marks : (j : ℕ) → HasSlot (length s) j → (P j → ⊥) → markOf s′ j ≡ markOf s j
   pub bytes : Bytes s → Bytes s′
 
--- only slot i changed: it is now v, and its digest is d
-pub record Wrote (s s′ : List ℕ) (i : ℕ) (v : Slot) (d : List ℕ) : Type 0 where
+-- only slot i changed: it is now v, and its mark is m
+pub record Wrote (s s′ : List ℕ) (i : ℕ) (v : Slot) (m : Mark) : Type 0 where
   pub here : slot s′ i ≡ v
-  pub digest : digestOf s′ i ≡ d
+  pub mark : markOf s′ i ≡ m
   pub kept : Keeps (λ j. j ≡ i) s s′
 
 -- only the header changed; it is now h
@@ -182,5 +188,5 @@ pub record Headed (s s′ : List ℕ) (h : Header) : Type 0 where
   pub here : header s′ ≡ h
   pub len : length s′ ≡ length s
   pub slots : (j : ℕ) → HasSlot (length s) j → slot s′ j ≡ slot s j
-  pub digests : (j : ℕ) → HasSlot (length s) j → digestOf s′ j ≡ digestOf s j
+  pub marks : (j : ℕ) → HasSlot (length s) j → markOf s′ j ≡ markOf s j
   pub bytes : Bytes s → Bytes s′

@@ -7,8 +7,8 @@ ghost use lib.ListN.{length, take};
 ghost use mathlib.Core.Bool.{true};
 ghost use Rattle.runs.specs.Bits.{bit};
 ghost use Rattle.slots.specs.Limits.{maxCapacity, maxKey, maxValue, storeLength};
-ghost use Rattle.slots.specs.Layout.{HasSlot, headAt, keyAt, valueAt, digestAt, header, HeaderFits, slot, digestOf, keyOf, valueOf, nodeSlot, headOf, HeadFits};
-ghost use Rattle.slots.specs.Setters.{setHeader, setSlot, setDigest, setRoot, withHead, setRed, setLeft, setRight, setValue, moveEntry, clearSlot};
+ghost use Rattle.slots.specs.Layout.{HasSlot, headAt, keyAt, valueAt, digestAt, header, HeaderFits, slot, countOf, digestOf, keyOf, valueOf, nodeSlot, headOf, HeadFits};
+ghost use Rattle.slots.specs.Setters.{setHeader, setSlot, setSlotAs, setCount, setDigest, setRoot, withHead, setRed, setLeft, setRight, setValue, moveEntry, clearSlot};
 
 // The edition that the header names.
 pub const EDITION: usize = 1;
@@ -36,7 +36,7 @@ pub struct Head {
     pub right: usize,
     pub key_length: usize,
     pub value_length: usize,
-    pub zero: usize,
+    pub count: usize,
 }
 
 // The length of a store of this capacity.
@@ -124,7 +124,7 @@ pub fn set_root(s: &mut [u8], x: usize)
 
 pub fn head_of(s: &[u8], i: usize) -> Head
     requires { ⌜ HasSlot (length (now s)) i ⌝ }
-    ensures { λ r. ⌜ r ≡ headOf (slot (now (s .entry)) i) ⌝ }
+    ensures { λ r. ⌜ r ≡ headOf (slot (now (s .entry)) i) (countOf (now (s .entry)) i) ⌝ }
 {
     let a = head_at(s.len(), i);
     let h = runs::six(s, a);
@@ -135,7 +135,7 @@ pub fn head_of(s: &[u8], i: usize) -> Head
         right: (h / 0x100_0000 % 0x800) as usize,
         key_length: (h / 0x4_0000 % 0x40) as usize,
         value_length: (h / 0x800 % 0x80) as usize,
-        zero: (h % 0x800) as usize,
+        count: (h % 0x800) as usize,
     }
 }
 
@@ -145,11 +145,11 @@ fn bit_of(b: bool) -> u64
     if b { 1 } else { 0 }
 }
 
-// The head of slot `i` anew; its key, value and digest stay.
+// The head of slot `i` anew, count and all; its key, value and digest stay.
 fn set_head(s: &mut [u8], i: usize, h: Head)
     requires { ⌜ HasSlot (length (now s)) i ⌝ }
     requires { ⌜ HeadFits h ⌝ }
-    ensures { λ _. ⌜ now (s .exit) ≡ setSlot (now (s .entry)) i (withHead h (slot (now (s .entry)) i)) ⌝ }
+    ensures { λ _. ⌜ now (s .exit) ≡ setSlotAs (now (s .entry)) i (withHead h (slot (now (s .entry)) i)) (h .count) ⌝ }
 {
     let a = head_at(s.len(), i);
     runs::put_six(
@@ -161,7 +161,7 @@ fn set_head(s: &mut [u8], i: usize, h: Head)
             + h.right as u64 * 0x100_0000
             + h.key_length as u64 * 0x4_0000
             + h.value_length as u64 * 0x800
-            + h.zero as u64,
+            + h.count as u64,
     );
 }
 
@@ -213,6 +213,24 @@ pub fn red(s: &[u8], i: usize) -> bool
     ensures { λ r. ⌜ r ≡ slot (now (s .entry)) i .red ⌝ }
 {
     head_of(s, i).red
+}
+
+// What the slot says of the number of entries in its subtree.
+pub fn count(s: &[u8], i: usize) -> usize
+    requires { ⌜ HasSlot (length (now s)) i ⌝ }
+    ensures { λ r. ⌜ r ≡ countOf (now (s .entry)) i ⌝ }
+{
+    head_of(s, i).count
+}
+
+pub fn set_count(s: &mut [u8], i: usize, x: usize)
+    requires { ⌜ HasSlot (length (now s)) i ⌝ }
+    requires { ⌜ x < 2048 ⌝ }
+    ensures { λ _. ⌜ now (s .exit) ≡ setCount (now (s .entry)) i x ⌝ }
+{
+    let mut h = head_of(s, i);
+    h.count = x;
+    set_head(s, i, h);
 }
 
 // ---- keys, values, digests
@@ -274,12 +292,13 @@ pub fn set_digest(s: &mut [u8], i: usize, d: &[u8; 32])
     bytes::copy(d, &mut s[b..e]);
 }
 
-// A new entry in slot `i`: red, with no children.
+// A new entry in slot `i`: red, with no children; its mark stays.
 pub fn put_entry(s: &mut [u8], i: usize, key: &[u8], value: &[u8])
     requires { ⌜ HasSlot (length (now s)) i ⌝ }
     requires { ⌜ (length (now key) ≤ maxKey) × (length (now value) ≤ maxValue) ⌝ }
     ensures { λ _. ⌜ now (s .exit) ≡ setSlot (now (s .entry)) i (nodeSlot true (now (key .entry)) (now (value .entry)) 0 0) ⌝ }
 {
+    let h = head_of(s, i);
     set_head(
         s,
         i,
@@ -290,7 +309,7 @@ pub fn put_entry(s: &mut [u8], i: usize, key: &[u8], value: &[u8])
             right: 0,
             key_length: key.len(),
             value_length: value.len(),
-            zero: 0,
+            count: h.count,
         },
     );
     let k = key_at(s.len(), i);
@@ -347,7 +366,7 @@ pub fn clear_slot(s: &mut [u8], i: usize, next: usize)
             right: 0,
             key_length: 0,
             value_length: 0,
-            zero: 0,
+            count: 0,
         },
     );
     let k = key_at(s.len(), i);

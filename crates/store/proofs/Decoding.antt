@@ -13,10 +13,10 @@ use Rattle.llrb.proofs.Height.{size-node}
 use Rattle.store.specs.Counts.{occurs, numbersTo}
 use Rattle.store.specs.Counting.{is-self, occurs-append, numbers-low, same-length, numbers-length}
 use Rattle.store.specs.Model.{Model, slotsOf, root, head}
-use Rattle.store.specs.Sound.{Nodes, Chain, Lawful, Represents, Sound}
+use Rattle.store.specs.Sound.{Nodes, Chain, Lawful, RepresentsIn, SoundIn}
 use Rattle.store.specs.Decode.{treeAt, entriesBelow, chainAt, decode}
 use Rattle.store.specs.Deciding.{told}
-use Rattle.store.specs.Decide.{represents?, held, onSound}
+use Rattle.store.specs.Decide.{represents?, held, onSoundIn}
 use Rattle.store.proofs.Trees.{slots-node, size-slots}
 
 -- ---- what `once` says of tree and chain
@@ -90,9 +90,9 @@ decode-chain (suc n) s (x ∷ f) a z p =
     let e = ap (λ (v : Slot). chainAt n s (v .left)) (a .0) ∙ decode-chain n s f (a .2) (omega arith) (omega arith) in
     open-chain n s x (zero-slot x (occurs 0 f) (omega arith)) ∙ ap {B = List ℕ} (λ (z : List ℕ). x ∷ z) e
 
-pub decoded : {s : List ℕ} {m : Model} → Represents s m → decode s ≡ m
+pub decoded : {e : ℕ} {s : List ℕ} {m : Model} → RepresentsIn e s m → decode s ≡ m
 unfolding decode
-decoded {s} {m} a =
+decoded {e} {s} {m} a =
     let h = a .laid .header in
     let g = a .lawful in
     let c = ap (λ (z : Header). z .capacity) h in
@@ -102,31 +102,31 @@ decoded {s} {m} a =
     ap (λ (z : Header). chainAt (z .capacity) s (z .free)) h ∙ decode-chain (m .capacity) s (m .free) (a .laid .chain) (no-zero-chain g) (omega (arith, live-and-free g)) in
     λ i. record { capacity = c i; tree = t i; free = f i }
 
--- a store holds one model
-pub model-same : {s : List ℕ} {m n : Model} → Represents s m → Represents s n → m ≡ n
+-- a store holds one model, whatever its edition
+pub model-same : {e d : ℕ} {s : List ℕ} {m n : Model} → RepresentsIn e s m → RepresentsIn d s n → m ≡ n
 model-same a b = sym (decoded a) ∙ decoded b
 
 -- a store is sound exactly when decoding it succeeds
-pub sound-decodes : {s : List ℕ} → Sound s → Represents s (decode s)
-sound-decodes {s} h = subst (Represents s) (sym (decoded (h .1))) (h .1)
+pub sound-decodes : {e : ℕ} {s : List ℕ} → SoundIn e s → RepresentsIn e s (decode s)
+sound-decodes {e} {s} h = subst (RepresentsIn e s) (sym (decoded (h .1))) (h .1)
 
-pub sound? : (s : List ℕ) → Dec (Sound s)
-sound? s = told (represents? s (decode s)) (λ a. (decode s, a)) sound-decodes
+pub sound? : (e : ℕ) (s : List ℕ) → Dec (SoundIn e s)
+sound? e s = told (represents? e s (decode s)) (λ a. (decode s, a)) sound-decodes
 
--- ---- onSound
+-- ---- onSoundIn
 
-pub on-sound : {A : Type 0} {s : List ℕ} {m : Model} → Represents s m → (f : Model → A) (z : A) → onSound s f z ≡ f m
-unfolding onSound
-on-sound {A} {s} {m} a f z = go (represents? s (decode s))
+pub on-sound : {A : Type 0} {e : ℕ} {s : List ℕ} {m : Model} → RepresentsIn e s m → (f : Model → A) (z : A) → onSoundIn e s f z ≡ f m
+unfolding onSoundIn
+on-sound {A} {e} {s} {m} a f z = go (represents? e s (decode s))
   where
-    go : (d : Dec (Represents s (decode s))) → held d (f (decode s)) z ≡ f m
+    go : (d : Dec (RepresentsIn e s (decode s))) → held d (f (decode s)) z ≡ f m
     go (yes h) = ap f (decoded a)
     go (no n) = absurd (n (sound-decodes (m, a)))
 
-pub on-unsound : {A : Type 0} {s : List ℕ} → (Sound s → ⊥) → (f : Model → A) (z : A) → onSound s f z ≡ z
-unfolding onSound
-on-unsound {A} {s} n f z = go (represents? s (decode s))
+pub on-unsound : {A : Type 0} {e : ℕ} {s : List ℕ} → (SoundIn e s → ⊥) → (f : Model → A) (z : A) → onSoundIn e s f z ≡ z
+unfolding onSoundIn
+on-unsound {A} {e} {s} n f z = go (represents? e s (decode s))
   where
-    go : (d : Dec (Represents s (decode s))) → held d (f (decode s)) z ≡ z
+    go : (d : Dec (RepresentsIn e s (decode s))) → held d (f (decode s)) z ≡ z
     go (yes h) = absurd (n (decode s, h))
     go (no k) = refl

@@ -13,7 +13,7 @@ use Rattle.key_order.specs.declared.Ordering.the-variants.{Less, Equal, Greater
 use Rattle.key_order.specs.Order.{Key, cmp, pick}
 use Rattle.key_order.proofs.Laws.{gt-lt}
 use Rattle.slots.specs.declared.Header.{Header}
-use Rattle.slots.specs.Layout.{header}
+use Rattle.slots.specs.Layout.{current, header}
 use Rattle.hash_tree.specs.Written.{write}
 use Rattle.llrb.specs.Tree.{Value, Entry, Tree, entries, size, get}
 use Rattle.llrb.specs.Map.{pairs, find, put, change, drop}
@@ -33,6 +33,7 @@ use Rattle.store.specs.History.{Edit, storeAfter, accepted, lastValue, m
 use Rattle.store.specs.Demand.{Lies, KeyRangeShown, Demand3}
 use Rattle.store.proofs.Decoding.{decoded, live-and-free, on-sound}
 use Rattle.store.proofs.Operating.{tree-lawful}
+use Rattle.store.proofs.Seats.{marks-digests, marks-counts}
 use Rattle.store.proofs.Calling.{Done, newly, again, changes, goes}
 use Rattle.store.proofs.Running.{model-lawful, store-holds, Step, stays, moves, step}
 use Rattle.store.proofs.Histories.{map-after, live-after}
@@ -182,7 +183,8 @@ module _ (capacity : ℕ) (low : 1 ≤ capacity) (high : capacity ≤ 1024) wher
       let n : header (storeAfter capacity h) .live ≡ size (modelAfter capacity h .tree) = ap (λ (x : Header). x .live) (a .laid .header) in
       record {
         sound = (modelAfter capacity h, a);
-        digests = rw d (a .laid .digests);
+        digests = rw d (marks-digests current (storeAfter capacity h) (modelAfter capacity h .tree) (a .laid .marks));
+        counts = rw d (marks-counts current (storeAfter capacity h) (modelAfter capacity h .tree) (a .laid .marks));
         map = rw d (pairs-after h);
         last = λ key. ap (find key) (sym (pairs-after h)) ∙ sym (value-find key (tree-lawful g)) ∙ map-after capacity low high h key;
         found = λ key value l. let e = present h key value l in subst (λ (v : Value). Lies (storeAfter capacity h) key v (getAnswer key (storeAfter capacity h))) (e .2) (get-lies a key (e .0) (e .1));

@@ -2,28 +2,32 @@
 use mathlib.Core.Path.{_≡_, sym, subst, _∙_}
 use mathlib.Core.Bool.{Bool, true, false, cond}
 use mathlib.Core.List.{List, [], _∷_, _++_}
-use Prim.Native.Nat.{ℕ, zero, _≤_, _<_}
+use Prim.Native.Nat.{ℕ, zero, suc, _≤_, _<_}
 use native.Mathlib.Omega.{arith}
 use lib.Dec.{eqb, lit<}
 use lib.ListN.{length}
 use Rattle.slots.specs.Bits.{Bytes}
-use Rattle.slots.specs.Layout.{HeaderFits, SlotFits, slot, freeSlot}
+use Rattle.slots.specs.Layout.{current, countIn, HeaderFits, SlotFits, slot, freeSlot}
 use Rattle.slots.proofs.Writing.{length-zeros, node-fits, free-fits}
-use Rattle.slots.proofs.Whole.{length-bytesOf, header-bytesOf, slot-bytesOf, digest-bytesOf, is-bytesOf}
+use Rattle.slots.proofs.Whole.{MarkFits, length-bytesOf, header-bytesOf, slot-bytesOf, mark-bytesOf, is-bytesOf}
 use Rattle.hash_tree.proofs.DigestLaws.{emptyHash-length, forkHash-length, labeledHash-length}
-use Rattle.llrb.specs.Tree.{Entry, Tree, nil, node, entries}
+use Rattle.llrb.specs.Tree.{Entry, Tree, nil, node, entries, size}
 use Rattle.llrb.specs.Digests.{subtreeDigest}
+use Rattle.llrb.proofs.Height.{size-node}
 use Rattle.llrb.specs.Path.{Sub, whole, on-left, on-right}
 use Rattle.store.specs.Counts.{occurs}
 use Rattle.store.specs.Counting.{is-self}
 use Rattle.store.specs.Model.{Model, root, head}
-use Rattle.store.specs.Sound.{headerOf, Short, Lawful, Represents, Sound}
-use Rattle.store.specs.Encode.{inChain, slotAt, digestAt, encode}
+use Rattle.store.specs.Sound.{headerIn, Short, Lawful, RepresentsIn, SoundIn}
+use Rattle.store.specs.Encode.{inChain, slotAt, markAt, encodeIn}
 use Rattle.store.specs.Decode.{decode}
 use Rattle.store.proofs.Decoding.{live-and-free, decoded, sound-decodes}
 use Rattle.store.proofs.Seats.{sub-left, sub-right, sub-occurs, top-occurs, Seat, missing, seated, seat, Shows, laid-shows, shows-laid, tree-within, chain-within}
 
 -- ---- all fits its field
+
+pub current-fits : current < 16
+current-fits = lit< tt
 
 pub subtree-digest-length : (t : Tree) → length (subtreeDigest t) ≡ 32
 unfolding subtreeDigest
@@ -40,6 +44,18 @@ short-left (e ∷ L) M a = (a .0, a .1, short-left L M (a .2))
 pub short-right : (L M : List Entry) → Short (L ++ M) → Short M
 short-right [] M a = a
 short-right (e ∷ L) M a = short-right L M (a .2)
+
+-- a count fits 11 bits
+count-most : (d n : ℕ) → n < 2048 → countIn d n < 2048
+count-most zero n p = lit< tt
+count-most (suc zero) n p = lit< tt
+count-most (suc (suc d)) n p = p
+
+-- a subtree has no more entries
+pub sub-size : {u t : Tree} → Sub u t → size u ≤ size t
+sub-size whole = omega arith
+sub-size (on-left {c = c} {e = e} {l = l} {r = r} p) = omega (arith, sub-size p, size-node c e l r)
+sub-size (on-right {c = c} {e = e} {l = l} {r = r} p) = omega (arith, sub-size p, size-node c e l r)
 
 -- the entries of a subtree are short too
 pub sub-short : {u t : Tree} → Sub u t → Short (entries t) → Short (entries u)
@@ -59,10 +75,10 @@ module _ {m : Model} (g : Lawful m) where
   head-small [] o = lit< tt
   head-small (x ∷ f) o = let w = chain-within g x (omega (arith, o x, is-self x)) in omega (arith, w, g .most)
 
-  header-fits : HeaderFits (headerOf m)
-  header-fits =
+  header-fits : (e : ℕ) → e < 16 → HeaderFits (headerIn e m)
+  header-fits e p =
       record {
-        edition = lit< tt;
+        edition = p;
         capacity = few;
         live = omega (arith, live-and-free g, g .most);
         root = root-small (m .tree) whole;
@@ -87,51 +103,52 @@ module _ {m : Model} (g : Lawful m) where
           let a = short-right (entries l) (e ∷ entries r) (sub-short u (g .short)) in
           rw h (node-fits c (e .key) (e .value) (root l) (root r) (a .0) (a .1) (root-small l (sub-left u)) (root-small r (sub-right u)))
 
-  digest-fits : (x : ℕ) → length (digestAt m x) ≡ 32
-  digest-fits x = at (seat x (m .tree))
+  mark-fits : (d x : ℕ) → MarkFits (markAt d m x)
+  mark-fits d x = at (seat x (m .tree))
     where
-      at : Seat x (m .tree) → length (digestAt m x) ≡ 32
-      at (missing z h) = rw h (length-zeros 32)
-      at (seated c e l r h k u) = rw h (subtree-digest-length (node c e l r))
+      at : Seat x (m .tree) → MarkFits (markAt d m x)
+      at (missing z h) = rw h (record { count = lit< tt; digest = length-zeros 32 })
+      at (seated c e l r h k u) =
+          rw h (record { count = count-most d (size (node c e l r)) (omega (arith, sub-size u, live-and-free g, g .most)); digest = subtree-digest-length (node c e l r) })
 
-  -- ---- every lawful model has a store
+  -- ---- every lawful model has a store, in any edition that 4 bits can say
 
-  pub encode-shows : Shows (encode m) m
-  unfolding encode
-  encode-shows =
+  pub encode-shows : (e : ℕ) → e < 16 → Shows e (encodeIn e m) m
+  unfolding encodeIn
+  encode-shows e p =
       record {
-        len = length-bytesOf (headerOf m) (m .capacity) (slotAt m) (digestAt m);
-        head = header-bytesOf (headerOf m) (m .capacity) (slotAt m) (digestAt m) header-fits;
-        slots = slot-bytesOf (headerOf m) (m .capacity) (slotAt m) (digestAt m) few (λ x p q. slot-fits x) (λ x p q. digest-fits x);
-        digests = digest-bytesOf (headerOf m) (m .capacity) (slotAt m) (digestAt m) few (λ x p q. slot-fits x) (λ x p q. digest-fits x);
+        len = length-bytesOf (headerIn e m) (m .capacity) (slotAt m) (markAt e m);
+        head = header-bytesOf (headerIn e m) (m .capacity) (slotAt m) (markAt e m) (header-fits e p);
+        slots = slot-bytesOf (headerIn e m) (m .capacity) (slotAt m) (markAt e m) few (λ x p q. slot-fits x) (λ x p q. mark-fits e x);
+        marks = mark-bytesOf (headerIn e m) (m .capacity) (slotAt m) (markAt e m) few (λ x p q. slot-fits x) (λ x p q. mark-fits e x);
       }
 
-  pub encode-holds : Represents (encode m) m
-  encode-holds = record { laid = shows-laid g encode-shows; lawful = g }
+  pub encode-holds : (e : ℕ) → e < 16 → RepresentsIn e (encodeIn e m) m
+  encode-holds e p = record { laid = shows-laid g (encode-shows e p); lawful = g }
 
-  pub encode-sound : Sound (encode m)
-  encode-sound = (m, encode-holds)
+  pub encode-sound : (e : ℕ) → e < 16 → SoundIn e (encodeIn e m)
+  encode-sound e p = (m, encode-holds e p)
 
-  pub decode-encode : decode (encode m) ≡ m
-  decode-encode = decoded encode-holds
+  pub decode-encode : (e : ℕ) → e < 16 → decode (encodeIn e m) ≡ m
+  decode-encode e p = decoded (encode-holds e p)
 
 -- ---- and one only
 
-pub encoded : {s : List ℕ} {m : Model} → Bytes s → Represents s m → s ≡ encode m
-unfolding encode
-encoded {s} {m} b a =
+pub encoded : {e : ℕ} {s : List ℕ} {m : Model} → Bytes s → RepresentsIn e s m → s ≡ encodeIn e m
+unfolding encodeIn
+encoded {e} {s} {m} b a =
     let w = laid-shows (a .lawful) (a .laid) in
-    is-bytesOf (m .capacity) s (few (a .lawful)) b (w .len) (headerOf m) (slotAt m) (digestAt m) (w .head) (w .slots) (w .digests)
+    is-bytesOf (m .capacity) s (few (a .lawful)) b (w .len) (headerIn e m) (slotAt m) (markAt e m) (w .head) (w .slots) (w .marks)
 
-pub bytes-same : {s t : List ℕ} {m : Model} → Bytes s → Bytes t → Represents s m → Represents t m → s ≡ t
+pub bytes-same : {e : ℕ} {s t : List ℕ} {m : Model} → Bytes s → Bytes t → RepresentsIn e s m → RepresentsIn e t m → s ≡ t
 bytes-same bs bt a b = encoded bs a ∙ sym (encoded bt b)
 
-pub encode-decode : {s : List ℕ} → Bytes s → Sound s → encode (decode s) ≡ s
+pub encode-decode : {e : ℕ} {s : List ℕ} → Bytes s → SoundIn e s → encodeIn e (decode s) ≡ s
 encode-decode b h = sym (encoded b (sound-decodes h))
 
 -- a store is sound exactly when it is the bytes of a lawful model
-pub sound-is : {s : List ℕ} → Bytes s → Sound s → (m : Model) × Lawful m × (s ≡ encode m)
+pub sound-is : {e : ℕ} {s : List ℕ} → Bytes s → SoundIn e s → (m : Model) × Lawful m × (s ≡ encodeIn e m)
 sound-is b h = (h .0, h .1 .lawful, encoded b (h .1))
 
-pub is-sound : {s : List ℕ} (m : Model) → Lawful m → s ≡ encode m → Sound s
-is-sound m g e = subst Sound (sym e) (encode-sound g)
+pub is-sound : {e : ℕ} {s : List ℕ} (m : Model) → e < 16 → Lawful m → s ≡ encodeIn e m → SoundIn e s
+is-sound {e} m p g q = subst (SoundIn e) (sym q) (encode-sound g e p)

@@ -4,7 +4,7 @@ use mathlib.Core.Path.{_≡_, refl, sym, ap, subst, _∙_}
 use mathlib.Core.Bool.{Bool, true, false, cond}
 use mathlib.Core.Logic.{_≢_, inl, inr}
 use mathlib.Core.List.{List, [], _∷_, _++_}
-use mathlib.Core.Option.{Option, none, some}
+use mathlib.Core.Option.{Option, none, some, Option·map}
 use Prim.Native.Nat.{ℕ, zero, _≤_}
 use native.Mathlib.Omega.{arith}
 use lib.Dec.{eqb}
@@ -15,7 +15,7 @@ use Rattle.key_order.specs.declared.Ordering.the-variants.{Less, Equal, Greater
 use Rattle.key_order.specs.Order.{Key, cmp, pick}
 use Rattle.key_order.proofs.Laws.{cmp-refl, cmp-eq}
 use Rattle.slots.specs.Bits.{Bytes}
-use Rattle.slots.specs.Layout.{header, Slot, slot, nodeSlot}
+use Rattle.slots.specs.Layout.{current, countIn, header, Slot, slot, Mark, nodeSlot}
 use Rattle.slots.specs.Setters as setters
 use Rattle.llrb.specs.Tree.{Value, Entry, Tree, nil, node, entries, size, get, insert, modify, withValue}
 use Rattle.llrb.specs.Delete.{freed}
@@ -23,13 +23,14 @@ use Rattle.llrb.specs.Sorted.{Mem}
 use Rattle.llrb.specs.Map.{findE, putE, Out}
 use Rattle.llrb.specs.Path.{Sub, whole, on-left, on-right, orElse, subtreeAt, searchPath}
 use Rattle.llrb.proofs.Get.{get-find}
+use Rattle.llrb.proofs.Height.{size-node}
 use Rattle.llrb.proofs.Insert.{insert-put}
 use Rattle.llrb.proofs.History.{insert-lawful, modify-slots}
 use Rattle.llrb.proofs.Replace.{insert-present, modify-off-path}
 use Rattle.store.specs.Numbers.{Outcome, done}
 use Rattle.store.specs.Model.{Model, root, head, freeAfter, inserted, modified, deleted}
 use Rattle.store.specs.Sound.{headerOf, Short, Lawful, Represents}
-use Rattle.store.specs.Encode.{inChain, topSlot, topDigest, encode}
+use Rattle.store.specs.Encode.{inChain, topSlot, topMark, encode}
 use Rattle.store.specs.Answers.{changed}
 use Rattle.store.specs.Calls.{insertIn, modifyIn}
 use Rattle.store.specs.History.{Insert, Modify, answerOf}
@@ -38,7 +39,7 @@ use Rattle.store.proofs.Trees.{size-slots}
 use Rattle.store.proofs.Decoding.{decoded}
 use Rattle.store.proofs.Operating.{tree-lawful, get-mem, get-not, modified-lawful, deleted-lawful}
 use Rattle.store.proofs.Seats.{Seat, missing, seated, seat, found, Shows, laid-shows, tree-once, tree-within, sub-occurs, top-occurs}
-use Rattle.store.proofs.Encoding.{sub-short, encode-shows, encoded}
+use Rattle.store.proofs.Encoding.{current-fits, sub-short, encode-shows, encoded}
 use Rattle.store.proofs.Running.{edit-answer}
 
 -- ---- insert of a present key is modify
@@ -90,6 +91,54 @@ same-slot k v x (node c e l r) z own =
     at Greater false q w i j =
         rw q (or-else x l (subtreeAt x (modify k v r)) z ∙ ap (topSlot (subtreeAt x l)) (j z w) ∙ sym (or-else x l (subtreeAt x r) z))
 
+-- every subtree keeps its number of entries
+size-modify : (k : Key) (v : Value) (t : Tree) → size (modify k v t) ≡ size t
+unfolding modify
+size-modify k v nil = refl
+size-modify k v (node c e l r) = at (cmp k (e .key)) (size-modify k v l) (size-modify k v r)
+  where
+    at : (o : Ordering) → size (modify k v l) ≡ size l → size (modify k v r) ≡ size r
+        → size (pick o (node c e (modify k v l) r) (node c (withValue e v) l r) (node c e l (modify k v r))) ≡ size (node c e l r)
+    at Less i j = omega (arith, i, size-node c e (modify k v l) r, size-node c e l r)
+    at Equal i j = omega (arith, size-node c (withValue e v) l r, size-node c e l r)
+    at Greater i j = omega (arith, j, size-node c e l (modify k v r), size-node c e l r)
+
+abbrev firstOf : Option ℕ → Option ℕ → Option ℕ
+firstOf none y = y
+firstOf (some n) y = some n
+
+size-or : (a b : Option Tree) → Option·map size (orElse a b) ≡ firstOf (Option·map size a) (Option·map size b)
+size-or none b = refl
+size-or (some t) b = refl
+
+same-size : (k : Key) (v : Value) (x : ℕ) (t : Tree) → Option·map size (subtreeAt x (modify k v t)) ≡ Option·map size (subtreeAt x t)
+unfolding modify subtreeAt
+same-size k v x nil = refl
+same-size k v x (node c e l r) = at (cmp k (e .key)) refl (eqb x (e .slot)) refl (same-size k v x l) (same-size k v x r)
+  where
+    at : (o : Ordering) → cmp k (e .key) ≡ o → (b : Bool) → eqb x (e .slot) ≡ b → Option·map size (subtreeAt x (modify k v l)) ≡ Option·map size (subtreeAt x l)
+        → Option·map size (subtreeAt x (modify k v r)) ≡ Option·map size (subtreeAt x r)
+        → Option·map size (subtreeAt x (pick o (node c e (modify k v l) r) (node c (withValue e v) l r) (node c e l (modify k v r))))
+        ≡ Option·map size (cond b (some (node c e l r)) (orElse (subtreeAt x l) (subtreeAt x r)))
+    at Less p true q i j = rw q (ap some (omega (arith, size-modify k v l, size-node c e (modify k v l) r, size-node c e l r)))
+    at Less p false q i j = rw q (size-or (subtreeAt x (modify k v l)) (subtreeAt x r) ∙ ap (λ (z : Option ℕ). firstOf z (Option·map size (subtreeAt x r))) i ∙ sym (size-or (subtreeAt x l) (subtreeAt x r)))
+    at Equal p true q i j = rw q (ap some (omega (arith, size-node c (withValue e v) l r, size-node c e l r)))
+    at Equal p false q i j = rw q
+    at Greater p true q i j = rw q (ap some (omega (arith, size-modify k v r, size-node c e l (modify k v r), size-node c e l r)))
+    at Greater p false q i j = rw q (size-or (subtreeAt x l) (subtreeAt x (modify k v r)) ∙ ap (firstOf (Option·map size (subtreeAt x l))) j ∙ sym (size-or (subtreeAt x l) (subtreeAt x r)))
+
+-- so every count stays
+abbrev countBy : (edition : ℕ) → Option ℕ → ℕ
+countBy d none = 0
+countBy d (some n) = countIn d n
+
+count-by : (d : ℕ) (o : Option Tree) → topMark d o .count ≡ countBy d (Option·map size o)
+count-by d none = refl
+count-by d (some t) = refl
+
+same-count : (d : ℕ) (k : Key) (v : Value) (x : ℕ) (t : Tree) → topMark d (subtreeAt x (modify k v t)) .count ≡ topMark d (subtreeAt x t) .count
+same-count d k v x t = count-by d (subtreeAt x (modify k v t)) ∙ ap (countBy d) (same-size k v x t) ∙ sym (count-by d (subtreeAt x t))
+
 -- the key's own node, before and after
 pub record Own (k : Key) (v : Value) (e : Entry) (t : Tree) : Type 0 where
   pub colour : Bool
@@ -130,9 +179,9 @@ module _ (k : Key) (v : Value) {m : Model} (e : Entry) (g : Lawful m) (h : get k
       let n : size (modify k v (m .tree)) ≡ size (m .tree) =
       sym (size-slots (modify k v (m .tree))) ∙ ap length (modify-slots k v (tree-lawful g)) ∙ size-slots (m .tree) in
       let r = root-modify k v (m .tree) in
-      λ i. record { edition = 1; capacity = m .capacity; live = n i; root = r i; free = head (m .free); zero = 0 }
+      λ i. record { edition = current; capacity = m .capacity; live = n i; root = r i; free = head (m .free); zero = 0 }
 
-  pub replaced : {s s′ : List ℕ} → Represents s m → Shows s′ (modified k v m) → Replaced k v s s′
+  pub replaced : {s s′ : List ℕ} → Represents s m → Shows current s′ (modified k v m) → Replaced k v s s′
   unfolding modified
   replaced {s} {s′} a b =
       let w = laid-shows g (a .laid) in
@@ -148,10 +197,12 @@ module _ (k : Key) (v : Value) {m : Model} (e : Entry) (g : Lawful m) (h : get k
             b .slots i p c ∙ same-slot k v i (m .tree) (inChain i (m .free)) (λ x f. let z : x ≡ e = cc in λ u. n (u ∙ ap (λ (o : Entry). o .slot) z)) ∙ sym (w .slots i p c);
         digests = λ i p q n. let c : i ≤ m .capacity = rw d at q in
             let o : Out i (searchPath k (m .tree)) = rw d at n in
-            b .digests i p c ∙ ap topDigest (modify-off-path k v i (m .tree) o) ∙ sym (w .digests i p c);
+            ap (λ (z : Mark). z .digest) (b .marks i p c ∙ ap (topMark current) (modify-off-path k v i (m .tree) o) ∙ sym (w .marks i p c));
+        counts = λ i p q. let c : i ≤ m .capacity = rw d at q in
+            ap (λ (z : Mark). z .count) (b .marks i p c) ∙ same-count current k v i (m .tree) ∙ sym (ap (λ (z : Mark). z .count) (w .marks i p c));
       }
     where
-      own-slot : Shows s m → Own k v e (m .tree) → slot s′ (e .slot) ≡ setters.withValue v (slot s (e .slot))
+      own-slot : Shows current s m → Own k v e (m .tree) → slot s′ (e .slot) ≡ setters.withValue v (slot s (e .slot))
       own-slot w y =
           let c = tree-within g (e .slot) (omega (arith, sub-occurs (e .slot) (y .before), top-occurs (y .colour) e (y .lower) (y .upper))) in
           let u : slot s (e .slot) ≡ nodeSlot (y .colour) (e .key) (e .value) (root (y .lower)) (root (y .upper)) =
@@ -179,10 +230,10 @@ module _ (k : Key) (v : Value) {m : Model} (e : Entry) (g : Lawful m) (h : get k
 
   -- insert and modify alike: 0, and only that value and digests on its search path change
   pub insert-replaces : {s : List ℕ} → Represents s m → (answerOf (Insert k v) s .number ≡ 0) × Replaced k v s (answerOf (Insert k v) s .store)
-  insert-replaces {s} a = rw (edit-answer (Insert k v) a, insert-done) (refl, replaced a (encode-shows g′))
+  insert-replaces {s} a = rw (edit-answer (Insert k v) a, insert-done) (refl, replaced a (encode-shows g′ current current-fits))
 
   pub modify-replaces : {s : List ℕ} → Represents s m → (answerOf (Modify k v) s .number ≡ 0) × Replaced k v s (answerOf (Modify k v) s .store)
-  modify-replaces {s} a = rw (edit-answer (Modify k v) a, modify-done) (refl, replaced a (encode-shows g′))
+  modify-replaces {s} a = rw (edit-answer (Modify k v) a, modify-done) (refl, replaced a (encode-shows g′ current current-fits))
 
 -- ---- the value already there
 

@@ -10,6 +10,7 @@ use native.Mathlib.Omega.{arith}
 use lib.Dec.{eqb}
 use lib.ListN.{length}
 use Rattle.slots.specs.Bits.{Bytes}
+use Rattle.slots.specs.Layout.{current}
 use Rattle.store.specs.Counts.{one}
 use Rattle.store.specs.Numbers.{Refusal, NotSound, Full, Absent, numberOf, Outcome, refused, done}
 use Rattle.store.specs.Model.{Model, inserted, modified, deleted}
@@ -22,7 +23,7 @@ use Rattle.store.specs.Log.{LawfulEdit, LawfulLog, readLog}
 use Rattle.store.specs.Replay.{runAll, answering, Replayed, replayed, orBadLog, replayAnswer, Answers, runIn, numberIn, answeringIn, Call, Single, Replay, storeAfterCalls, onto, records, singly}
 use Rattle.store.specs.Demand.{Demand3}
 use Rattle.store.proofs.Decoding.{on-sound, on-unsound}
-use Rattle.store.proofs.Encoding.{encode-holds, encoded}
+use Rattle.store.proofs.Encoding.{current-fits, encode-holds, encoded}
 use Rattle.store.proofs.Calling.{insert-outcome, modify-outcome, delete-outcome, edit-lawful}
 use Rattle.store.proofs.Running.{edit-answer, edit-sound, store-holds}
 use Rattle.store.proofs.Demand.{demand-3}
@@ -66,10 +67,10 @@ after-number s (done n) = refl
 
 module _ (e : Edit) {m : Model} (g : Lawful m) where
   edit-store : answerOf e (encode m) .store ≡ encode (after (editIn e m) m)
-  edit-store = ap (λ (c : Changed). c .store) (edit-answer e (encode-holds g)) ∙ after-store m (editIn e m)
+  edit-store = ap (λ (c : Changed). c .store) (edit-answer e (encode-holds g current current-fits)) ∙ after-store m (editIn e m)
 
   edit-number : answerOf e (encode m) .number ≡ numberIn (editIn e m)
-  edit-number = ap (λ (c : Changed). c .number) (edit-answer e (encode-holds g)) ∙ after-number (encode m) (editIn e m)
+  edit-number = ap (λ (c : Changed). c .number) (edit-answer e (encode-holds g current current-fits)) ∙ after-number (encode m) (editIn e m)
 
 pub run-is : (es : List Edit) {m : Model} → Lawful m → runAll es (encode m) ≡ encode (runIn es m)
 unfolding runAll runIn

@@ -6,7 +6,7 @@ use Prim.Native.Nat.{ℕ, _≤_}
 use native.Mathlib.Omega.{arith}
 use lib.ListN.{length}
 use borrow.Author.Tests.{eq-eqb, ne-eqb, le-ltb}
-use Rattle.slots.specs.Layout.{storeLength}
+use Rattle.slots.specs.Layout.{current, storeLength}
 use Rattle.store.specs.Numbers.{NotSound, Outcome, refused, done}
 use Rattle.store.specs.Model.{Model}
 use Rattle.store.specs.Sound.{Lawful, Represents, Sound}
@@ -16,7 +16,7 @@ use Rattle.store.specs.Answers.{Changed, changed}
 use Rattle.store.specs.Calls.{insertIn, modifyIn, deleteIn, createAnswer, insertAnswer, modifyAnswer, deleteAnswer}
 use Rattle.store.specs.History.{Edit, Insert, Modify, Delete, answerOf, storeAfter, accepted, editIn, after, modelAfter}
 use Rattle.store.proofs.Decoding.{on-sound}
-use Rattle.store.proofs.Encoding.{encode-holds, encode-sound, decode-encode}
+use Rattle.store.proofs.Encoding.{current-fits, encode-holds, encode-sound, decode-encode}
 use Rattle.store.proofs.Operating.{fresh-lawful}
 use Rattle.store.proofs.Calling.{never-zero, edit-lawful, done-lawful, Done, Verdict, not-done, is-done, verdict}
 
@@ -33,7 +33,7 @@ edit-sound d {s} (m, a) = rw (edit-answer d a) (at (verdict d m))
   where
     at : {o : Outcome Model} → Verdict d m o → Sound (changed s o .store)
     at not-done = (m, a)
-    at (is-done {n = n} c) = encode-sound (done-lawful (a .lawful) c)
+    at (is-done {n = n} c) = encode-sound (done-lawful (a .lawful) c) current current-fits
 
 -- create in any buffer of the right length: a fresh store
 pub create-fresh : (capacity : ℕ) (s : List ℕ) → 1 ≤ capacity → capacity ≤ 1024 → length s ≡ storeLength capacity
@@ -57,14 +57,14 @@ module _ (capacity : ℕ) (low : 1 ≤ capacity) (high : capacity ≤ 1024) wher
   unfolding storeAfter modelAfter
   store-is [] = refl
   store-is (d ∷ h) =
-      ap (λ (s : List ℕ). answerOf d s .store) (store-is h) ∙ ap (λ (c : Changed). c .store) (edit-answer d (encode-holds (model-lawful h)))
+      ap (λ (s : List ℕ). answerOf d s .store) (store-is h) ∙ ap (λ (c : Changed). c .store) (edit-answer d (encode-holds (model-lawful h) current current-fits))
       ∙ changed-store (modelAfter capacity h) (editIn d (modelAfter capacity h))
 
   pub store-holds : (h : List Edit) → Represents (storeAfter capacity h) (modelAfter capacity h)
-  store-holds h = subst (λ (s : List ℕ). Represents s (modelAfter capacity h)) (sym (store-is h)) (encode-holds (model-lawful h))
+  store-holds h = subst (λ (s : List ℕ). Represents s (modelAfter capacity h)) (sym (store-is h)) (encode-holds (model-lawful h) current current-fits)
 
   pub store-decodes : (h : List Edit) → decode (storeAfter capacity h) ≡ modelAfter capacity h
-  store-decodes h = ap decode (store-is h) ∙ decode-encode (model-lawful h)
+  store-decodes h = ap decode (store-is h) ∙ decode-encode (model-lawful h) current current-fits
 
   -- ---- one more call: refused, and nothing changes; or done
 

@@ -10,15 +10,15 @@ use native.Mathlib.Omega.{arith}
 use lib.Dec.{eqb}
 use lib.ListN.{length}
 use borrow.Author.Tests.{eqb-true, eqb-false, eq-eqb, ne-eqb}
-use Rattle.slots.specs.Layout.{storeLength, header, slot, digestOf, zeros}
+use Rattle.slots.specs.Layout.{storeLength, header, slot, Mark, markOf, noMark}
 use Rattle.llrb.specs.Tree.{Entry, Tree, nil, node}
 use Rattle.llrb.specs.Path.{Sub, whole, on-left, on-right, subtreeAt}
 use Rattle.store.specs.Counts.{is, occurs}
 use Rattle.store.specs.Deciding.{le?}
 use Rattle.store.specs.Counting.{is-self, is-other, numbers-in, numbers-low, numbers-high, numbers-most}
 use Rattle.store.specs.Model.{Model, slotsOf, head}
-use Rattle.store.specs.Sound.{headerOf, Nodes, Digests, Chain, Laid, Lawful}
-use Rattle.store.specs.Encode.{inChain, slotAt, digestAt}
+use Rattle.store.specs.Sound.{headerIn, Nodes, Marks, Digests, Counts, Chain, LaidIn, Lawful}
+use Rattle.store.specs.Encode.{inChain, slotAt, markAt}
 use Rattle.store.proofs.Trees.{slots-node}
 use Rattle.store.proofs.Decoding.{once-sum}
 
@@ -39,10 +39,23 @@ sub-nodes s whole a = a
 sub-nodes s (on-left p) a = sub-nodes s p (a .1)
 sub-nodes s (on-right p) a = sub-nodes s p (a .2)
 
-pub sub-digests : (s : List ℕ) {u t : Tree} → Sub u t → Digests s t → Digests s u
-sub-digests s whole a = a
-sub-digests s (on-left p) a = sub-digests s p (a .1)
-sub-digests s (on-right p) a = sub-digests s p (a .2)
+sub-marks : (d : ℕ) (s : List ℕ) {u t : Tree} → Sub u t → Marks d s t → Marks d s u
+sub-marks d s whole a = a
+sub-marks d s (on-left p) a = sub-marks d s p (a .1)
+sub-marks d s (on-right p) a = sub-marks d s p (a .2)
+
+-- the two halves of the marks
+pub marks-digests : (d : ℕ) (s : List ℕ) (t : Tree) → Marks d s t → Digests s t
+marks-digests d s nil a = tt
+marks-digests d s (node c e l r) a = (ap (λ (m : Mark). m .digest) (a .0), marks-digests d s l (a .1), marks-digests d s r (a .2))
+
+pub marks-counts : (d : ℕ) (s : List ℕ) (t : Tree) → Marks d s t → Counts d s t
+marks-counts d s nil a = tt
+marks-counts d s (node c e l r) a = (ap (λ (m : Mark). m .count) (a .0), marks-counts d s l (a .1), marks-counts d s r (a .2))
+
+pub marks-are : (d : ℕ) (s : List ℕ) (t : Tree) → Digests s t → Counts d s t → Marks d s t
+marks-are d s nil a b = tt
+marks-are d s (node c e l r) a b = (λ i. record { count = b .0 i; digest = a .0 i }, marks-are d s l (a .1) (b .1), marks-are d s r (a .2) (b .2))
 
 -- a subtree's slots are the tree's
 pub sub-occurs : (x : ℕ) {u t : Tree} → Sub u t → occurs x (slotsOf u) ≤ occurs x (slotsOf t)
@@ -98,16 +111,16 @@ found {c} {e} {l} {r} o (on-right {c = d} {e = f} {l = m} {r = n} p) =
 
 -- ---- a store seen slot by slot
 
-pub record Shows (s : List ℕ) (m : Model) : Type 0 where
+pub record Shows (edition : ℕ) (s : List ℕ) (m : Model) : Type 0 where
   pub len : length s ≡ storeLength (m .capacity)
-  pub head : header s ≡ headerOf m
+  pub head : header s ≡ headerIn edition m
   pub slots : (x : ℕ) → 1 ≤ x → x ≤ m .capacity → slot s x ≡ slotAt m x
-  pub digests : (x : ℕ) → 1 ≤ x → x ≤ m .capacity → digestOf s x ≡ digestAt m x
+  pub marks : (x : ℕ) → 1 ≤ x → x ≤ m .capacity → markOf s x ≡ markAt edition m x
 
 -- the chain at x
 record Linked (s : List ℕ) (x : ℕ) (f : List ℕ) : Type 0 where
   here : slot s x ≡ inChain x f
-  blank : digestOf s x ≡ zeros 32
+  blank : markOf s x ≡ noMark
 
 linked : (s : List ℕ) (x : ℕ) (f : List ℕ) → Chain s f → 1 ≤ occurs x f → Linked s x f
 linked s x [] a p = absurd (not-suc-le-zero p)
@@ -116,7 +129,7 @@ linked s x (y ∷ f) a p = go (eqb x y) refl (linked s x f (a .2))
     go : (b : Bool) → eqb x y ≡ b → (1 ≤ occurs x f → Linked s x f) → Linked s x (y ∷ f)
     go true q i =
         let k = eqb-true x y q in
-        record { here = rw q (ap (slot s) k ∙ a .0); blank = ap (digestOf s) k ∙ a .1 }
+        record { here = rw q (ap (slot s) k ∙ a .0); blank = ap (markOf s) k ∙ a .1 }
     go false q i =
         let r = i (omega (arith, is-other x y (eqb-false x y q))) in
         record { here = rw q (r .here); blank = r .blank }
@@ -144,9 +157,9 @@ module _ {m : Model} (g : Lawful m) where
   pub chain-once : (x : ℕ) → occurs x (m .free) ≤ 1
   chain-once x = omega (arith, once-sum g x, numbers-most x (m .capacity))
 
-module _ {s : List ℕ} {m : Model} (g : Lawful m) where
-  pub laid-shows : Laid s m → Shows s m
-  laid-shows a = record { len = a .len; head = a .header; slots = λ x p q. slots-at x p q (seat x (m .tree)); digests = λ x p q. digests-at x p q (seat x (m .tree)) }
+module _ {d : ℕ} {s : List ℕ} {m : Model} (g : Lawful m) where
+  pub laid-shows : LaidIn d s m → Shows d s m
+  laid-shows a = record { len = a .len; head = a .header; slots = λ x p q. slots-at x p q (seat x (m .tree)); marks = λ x p q. marks-at x p q (seat x (m .tree)) }
     where
       chained : (x : ℕ) → 1 ≤ x → x ≤ m .capacity → occurs x (slotsOf (m .tree)) ≡ 0 → Linked s x (m .free)
       chained x p q z = linked s x (m .free) (a .chain) (omega (arith, once-sum g x, numbers-in x (m .capacity) p q))
@@ -155,13 +168,13 @@ module _ {s : List ℕ} {m : Model} (g : Lawful m) where
       slots-at x p q (missing z h) = rw h (chained x p q z .here)
       slots-at x p q (seated c e l r h k u) = rw h (ap (slot s) (sym k) ∙ sub-nodes s u (a .nodes) .0)
 
-      digests-at : (x : ℕ) → 1 ≤ x → x ≤ m .capacity → Seat x (m .tree) → digestOf s x ≡ digestAt m x
-      digests-at x p q (missing z h) = rw h (chained x p q z .blank)
-      digests-at x p q (seated c e l r h k u) = rw h (ap (digestOf s) (sym k) ∙ sub-digests s u (a .digests) .0)
+      marks-at : (x : ℕ) → 1 ≤ x → x ≤ m .capacity → Seat x (m .tree) → markOf s x ≡ markAt d m x
+      marks-at x p q (missing z h) = rw h (chained x p q z .blank)
+      marks-at x p q (seated c e l r h k u) = rw h (ap (markOf s) (sym k) ∙ sub-marks d s u (a .marks) .0)
 
-  pub shows-laid : Shows s m → Laid s m
+  pub shows-laid : Shows d s m → LaidIn d s m
   shows-laid a =
-      record { len = a .len; header = a .head; nodes = nodes-of (m .tree) whole; digests = digests-of (m .tree) whole; chain = chain-of (m .free) (λ x. chain-once g x) (λ x p. (in-chain x p, blank x p)) }
+      record { len = a .len; header = a .head; nodes = nodes-of (m .tree) whole; marks = marks-of (m .tree) whole; chain = chain-of (m .free) (λ x. chain-once g x) (λ x p. (in-chain x p, blank x p)) }
     where
       seen : (c : Bool) (e : Entry) (l r : Tree) → Sub (node c e l r) (m .tree) → (1 ≤ e .slot) × (e .slot ≤ m .capacity)
       seen c e l r u = tree-within g (e .slot) (omega (arith, sub-occurs (e .slot) u, top-occurs c e l r))
@@ -172,11 +185,11 @@ module _ {s : List ℕ} {m : Model} (g : Lawful m) where
           let w = seen c e l r u in
           (a .slots (e .slot) (w .0) (w .1) ∙ rw (found (tree-once g) u), nodes-of l (sub-left u), nodes-of r (sub-right u))
 
-      digests-of : (t : Tree) → Sub t (m .tree) → Digests s t
-      digests-of nil u = tt
-      digests-of (node c e l r) u =
+      marks-of : (t : Tree) → Sub t (m .tree) → Marks d s t
+      marks-of nil u = tt
+      marks-of (node c e l r) u =
           let w = seen c e l r u in
-          (a .digests (e .slot) (w .0) (w .1) ∙ rw (found (tree-once g) u), digests-of l (sub-left u), digests-of r (sub-right u))
+          (a .marks (e .slot) (w .0) (w .1) ∙ rw (found (tree-once g) u), marks-of l (sub-left u), marks-of r (sub-right u))
 
       apart : (x : ℕ) → 1 ≤ occurs x (m .free) → subtreeAt x (m .tree) ≡ none
       apart x p = not-seated x (m .tree) (omega (arith, once-sum g x, numbers-most x (m .capacity)))
@@ -184,10 +197,10 @@ module _ {s : List ℕ} {m : Model} (g : Lawful m) where
       in-chain : (x : ℕ) → 1 ≤ occurs x (m .free) → slot s x ≡ inChain x (m .free)
       in-chain x p = let w = chain-within g x p in a .slots x (w .0) (w .1) ∙ rw (apart x p)
 
-      blank : (x : ℕ) → 1 ≤ occurs x (m .free) → digestOf s x ≡ zeros 32
-      blank x p = let w = chain-within g x p in a .digests x (w .0) (w .1) ∙ rw (apart x p)
+      blank : (x : ℕ) → 1 ≤ occurs x (m .free) → markOf s x ≡ noMark
+      blank x p = let w = chain-within g x p in a .marks x (w .0) (w .1) ∙ rw (apart x p)
 
-      chain-of : (f : List ℕ) → ((x : ℕ) → occurs x f ≤ 1) → ((x : ℕ) → 1 ≤ occurs x f → (slot s x ≡ inChain x f) × (digestOf s x ≡ zeros 32)) → Chain s f
+      chain-of : (f : List ℕ) → ((x : ℕ) → occurs x f ≤ 1) → ((x : ℕ) → 1 ≤ occurs x f → (slot s x ≡ inChain x f) × (markOf s x ≡ noMark)) → Chain s f
       chain-of [] o h = tt
       chain-of (y ∷ f) o h =
           let b = h y (omega (arith, is-self y)) in

@@ -8,7 +8,7 @@ use lib.Dec.{ltb, leb, eqb}
 use lib.ListN.{length}
 use Rattle.answers.specs.Numbers.{maxMessage}
 use Rattle.sha256.specs.Hashed.{hashed}
-use Rattle.slots.specs.Layout.{storeLength}
+use Rattle.slots.specs.Layout.{current, storeLength}
 use Rattle.hash_tree.specs.HashTree.{HashTree}
 use Rattle.hash_tree.specs.Written.{write, maxDepth}
 use Rattle.hash_tree.specs.Parse.{Parsed, Got, Bad, parse}
@@ -37,7 +37,7 @@ use Rattle.store.proofs.Difference.{difference-of, old-unsound, new-uns
 -- 1 comes first, and is given exactly for a store that is not sound
 by-soundness : {A : Type 0} (s : List ℕ) (o : Model → Outcome A) (number : Outcome A → ℕ) (rows : List Row) → number (refused NotSound) ≡ 1 → applies NotSound rows ≡ false
     → number (o (decode s)) ≡ firstIn rows → number (onSound s o (refused NotSound)) ≡ firstIn (notSound s ∷ rows)
-by-soundness s o number rows one free h = at (represents? s (decode s))
+by-soundness s o number rows one free h = at (represents? current s (decode s))
   where
     at : Dec (Represents s (decode s)) → number (onSound s o (refused NotSound)) ≡ firstIn (notSound s ∷ rows)
     at (yes a) = rw (on-sound a o (refused NotSound), on-sound a (λ m. false) true) h
@@ -105,7 +105,7 @@ replay-number s (some es) = refl
 difference-number : (old new out : List ℕ)
     → differenceAnswer old new out .number
     ≡ firstIn (notSound old ∷ notSound new ∷ when NoRoom (ltb (length out) (length (linesBytes (difference (mapIn (decode old)) (mapIn (decode new)))))) ∷ [])
-difference-number old new out = at (represents? old (decode old)) (represents? new (decode new))
+difference-number old new out = at (represents? current old (decode old)) (represents? current new (decode new))
   where
     lines : List ℕ
     lines = linesBytes (difference (mapIn (decode old)) (mapIn (decode new)))

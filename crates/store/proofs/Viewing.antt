@@ -10,7 +10,7 @@ use lib.Seq.{take-append-seam}
 use Rattle.key_order.specs.Order.{Key, cmp}
 use Rattle.hash_tree.specs.HashTree.{Digest, HashTree}
 use Rattle.hash_tree.specs.Written.{write}
-use Rattle.slots.specs.Layout.{digestOf}
+use Rattle.slots.specs.Layout.{current, digestOf}
 use Rattle.llrb.specs.Tree.{Entry, Tree, nil, node, balance, get, insertGo, insert, entries}
 use Rattle.llrb.specs.Digests.{dataDigest, subtreeDigest}
 use Rattle.witness_trees.specs.Witness.{valueRange}
@@ -26,6 +26,7 @@ use Rattle.store.specs.Calls.{refuse, longKey, ofRange, insertIn, witnes
 use Rattle.store.specs.History.{Edit, Insert, storeAfter, modelAfter}
 use Rattle.store.specs.Viewed.{viewIn, given, nothingGiven, fromViewAnswer}
 use Rattle.store.proofs.Decoding.{decoded, on-sound}
+use Rattle.store.proofs.Seats.{marks-digests}
 use Rattle.store.proofs.Demand.{not-reversed}
 use Rattle.store.proofs.Running.{store-holds}
 
@@ -38,7 +39,7 @@ digests-view s g (node c e l r) d = rw (d .0, digests-view s g l (d .1), digests
 
 pub view-is : {s : List ℕ} {m : Model} → Represents s m → (first last : Key) → viewIn first last s ≡ viewOf subtreeDigest first last (m .tree)
 view-is {s} {m} a first last =
-    ap (λ (n : Model). viewOf (λ u. digestOf s (root u)) first last (n .tree)) (decoded a) ∙ digests-view s _ (m .tree) (a .laid .digests)
+    ap (λ (n : Model). viewOf (λ u. digestOf s (root u)) first last (n .tree)) (decoded a) ∙ digests-view s _ (m .tree) (marks-digests current s (m .tree) (a .laid .marks))
 
 -- ---- the call
 

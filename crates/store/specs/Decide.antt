@@ -10,13 +10,13 @@ use Rattle.key_order.specs.declared.Ordering.{Ordering}
 use Rattle.key_order.specs.declared.Ordering.the-variants.{Less, Equal, Greater}
 use Rattle.key_order.specs.Order.{Key, cmp}
 use Rattle.slots.specs.declared.Header.{Header}
-use Rattle.slots.specs.Layout.{storeLength, header, Slot}
+use Rattle.slots.specs.Layout.{current, storeLength, header, Slot, Mark}
 use Rattle.llrb.specs.Tree.{Entry, Tree, nil, node, isRed, entries}
 use Rattle.llrb.specs.Sorted.{Above, Sorted}
 use Rattle.llrb.specs.Shape.{RedsApart, LeansLeft, Blacks, SameBlacks}
 use Rattle.store.specs.Counts.{numbersTo}
 use Rattle.store.specs.Model.{Model, named, root}
-use Rattle.store.specs.Sound.{headerOf, Nodes, Digests, Chain, Laid, Short, Lawful, Represents}
+use Rattle.store.specs.Sound.{headerIn, Nodes, Marks, Chain, LaidIn, Short, Lawful, RepresentsIn}
 use Rattle.store.specs.Decode.{decode}
 use Rattle.store.specs.Deciding.{told, _&_, three, nat?, le?, bytes?, bool?}
 use Rattle.store.specs.Counting.{same?}
@@ -54,7 +54,7 @@ slot? : (x y : Slot) → Dec (x ≡ y)
 slot? x y =
     told
     (bool? (x .live) (y .live) & bool? (x .red) (y .red) & nat? (x .left) (y .left) & nat? (x .right) (y .right) & nat? (x .keyLength) (y .keyLength)
-    & nat? (x .valueLength) (y .valueLength) & nat? (x .zero) (y .zero) & bytes? (x .keyRoom) (y .keyRoom) & bytes? (x .valueRoom) (y .valueRoom))
+    & nat? (x .valueLength) (y .valueLength) & bytes? (x .keyRoom) (y .keyRoom) & bytes? (x .valueRoom) (y .valueRoom))
     (λ h i. record {
       live = h .0 i;
       red = h .1 .0 i;
@@ -62,9 +62,8 @@ slot? x y =
       right = h .1 .1 .1 .0 i;
       keyLength = h .1 .1 .1 .1 .0 i;
       valueLength = h .1 .1 .1 .1 .1 .0 i;
-      zero = h .1 .1 .1 .1 .1 .1 .0 i;
-      keyRoom = h .1 .1 .1 .1 .1 .1 .1 .0 i;
-      valueRoom = h .1 .1 .1 .1 .1 .1 .1 .1 i;
+      keyRoom = h .1 .1 .1 .1 .1 .1 .0 i;
+      valueRoom = h .1 .1 .1 .1 .1 .1 .1 i;
     })
     (λ e. (
       ap (λ (z : Slot). z .live) e,
@@ -78,10 +77,7 @@ slot? x y =
               ap (λ (z : Slot). z .keyLength) e,
               (
                 ap (λ (z : Slot). z .valueLength) e,
-                (
-                  ap (λ (z : Slot). z .zero) e,
-                  (ap (λ (z : Slot). z .keyRoom) e, ap (λ (z : Slot). z .valueRoom) e),
-                ),
+                (ap (λ (z : Slot). z .keyRoom) e, ap (λ (z : Slot). z .valueRoom) e),
               ),
             ),
           ),
@@ -89,24 +85,29 @@ slot? x y =
       ),
     ))
 
+mark? : (x y : Mark) → Dec (x ≡ y)
+mark? x y =
+    told (nat? (x .count) (y .count) & bytes? (x .digest) (y .digest)) (λ h i. record { count = h .0 i; digest = h .1 i })
+    (λ e. (ap (λ (z : Mark). z .count) e, ap (λ (z : Mark). z .digest) e))
+
 nodes? : (s : List ℕ) (t : Tree) → Dec (Nodes s t)
 nodes? s nil = yes tt
 nodes? s (node c e l r) = three (slot? _ _) (nodes? s l) (nodes? s r)
 
-digests? : (s : List ℕ) (t : Tree) → Dec (Digests s t)
-digests? s nil = yes tt
-digests? s (node c e l r) = three (bytes? _ _) (digests? s l) (digests? s r)
+marks? : (d : ℕ) (s : List ℕ) (t : Tree) → Dec (Marks d s t)
+marks? d s nil = yes tt
+marks? d s (node c e l r) = three (mark? _ _) (marks? d s l) (marks? d s r)
 
 chain? : (s : List ℕ) (free : List ℕ) → Dec (Chain s free)
 chain? s [] = yes tt
-chain? s (x ∷ free) = three (slot? _ _) (bytes? _ _) (chain? s free)
+chain? s (x ∷ free) = three (slot? _ _) (mark? _ _) (chain? s free)
 
-laid? : (s : List ℕ) (m : Model) → Dec (Laid s m)
-laid? s m =
+laid? : (e : ℕ) (s : List ℕ) (m : Model) → Dec (LaidIn e s m)
+laid? e s m =
     told
-    (nat? (length s) (storeLength (m .capacity)) & header? (header s) (headerOf m) & nodes? s (m .tree) & digests? s (m .tree) & chain? s (m .free))
-    (λ h. record { len = h .0; header = h .1 .0; nodes = h .1 .1 .0; digests = h .1 .1 .1 .0; chain = h .1 .1 .1 .1 })
-    (λ a. (a .len, (a .header, (a .nodes, (a .digests, a .chain)))))
+    (nat? (length s) (storeLength (m .capacity)) & header? (header s) (headerIn e m) & nodes? s (m .tree) & marks? e s (m .tree) & chain? s (m .free))
+    (λ h. record { len = h .0; header = h .1 .0; nodes = h .1 .1 .0; marks = h .1 .1 .1 .0; chain = h .1 .1 .1 .1 })
+    (λ a. (a .len, (a .header, (a .nodes, (a .marks, a .chain)))))
 
 -- ---- the lines that do not
 
@@ -180,8 +181,8 @@ lawful? m =
     })
     (λ a. (a .least, (a .most, (a .short, (a .ordered, (a .rootBlack, (a .redsApart, (a .leansLeft, (a .sameBlacks, a .once)))))))))
 
-pub represents? : (s : List ℕ) (m : Model) → Dec (Represents s m)
-represents? s m = told (laid? s m & lawful? m) (λ h. record { laid = h .0; lawful = h .1 }) (λ a. (a .laid, a .lawful))
+pub represents? : (e : ℕ) (s : List ℕ) (m : Model) → Dec (RepresentsIn e s m)
+represents? e s m = told (laid? e s m & lawful? m) (λ h. record { laid = h .0; lawful = h .1 }) (λ a. (a .laid, a .lawful))
 
 -- ---- calls
 
@@ -189,6 +190,9 @@ abbrev pub held : {A P : Type 0} → Dec P → A → A → A
 held (yes h) a z = a
 held (no n) a z = z
 
--- f of the model that s holds; z where s is not sound
-unfoldable pub onSound : {A : Type 0} → List ℕ → (Model → A) → A → A
-onSound s f z = held (represents? s (decode s)) (f (decode s)) z
+-- f of the model that s holds in an edition; z where s is not sound in it
+unfoldable pub onSoundIn : {A : Type 0} → (edition : ℕ) → List ℕ → (Model → A) → A → A
+onSoundIn e s f z = held (represents? e s (decode s)) (f (decode s)) z
+
+abbrev pub onSound : {A : Type 0} → List ℕ → (Model → A) → A → A
+onSound s f z = onSoundIn current s f z

@@ -11,7 +11,7 @@ use Rattle.sha256.specs.Hashed.{hashed}
 use Rattle.hash_tree.specs.HashTree.{HashTree}
 use Rattle.hash_tree.specs.Written.{write, maxDepth, Lawful}
 use Rattle.hash_tree.specs.Whole as whole
-use Rattle.slots.specs.Layout.{header, slot, digestOf, part, zeros}
+use Rattle.slots.specs.Layout.{current, header, slot, countOf, digestOf, part, zeros}
 use Rattle.slots.specs.Setters.{withValue}
 use Rattle.llrb.specs.Tree.{Value, Entry, Tree, entries}
 use Rattle.llrb.specs.Digests.{rootHash}
@@ -21,7 +21,7 @@ use Rattle.llrb.specs.Path.{searchPath}
 use Rattle.witness_trees.specs.Reading.{labels, leaves}
 use Rattle.witness_trees.specs.Witness as paper
 use Rattle.witness_trees.specs.Rules.{Le, keysIn, filter, wanted}
-use Rattle.store.specs.Sound.{Digests, Sound}
+use Rattle.store.specs.Sound.{Digests, Counts, Sound}
 use Rattle.store.specs.Decode.{decode}
 use Rattle.store.specs.Answers.{Found, Changed, Written}
 use Rattle.store.specs.Calls.{isNone, createAnswer, isEmptyAnswer, countAnswer, rootHashAnswer, getAnswer, firstEntryAnswer, nextEntryAnswer, insertAnswer, modifyAnswer, deleteAnswer, asHashTreeAnswer, keysAnswer, witnessAnswer, keysWithPrefixAnswer, keyRangeAnswer, valueRangeAnswer}
@@ -79,6 +79,8 @@ pub record Replaced (key : Key) (value : Value) (s s′ : List ℕ) : Type 0 whe
   pub others : (i : ℕ) → 1 ≤ i → i ≤ decode s .capacity → i ≢ entry .slot → slot s′ i ≡ slot s i
   -- every digest stays that is not on the search path
   pub digests : (i : ℕ) → 1 ≤ i → i ≤ decode s .capacity → Out i (searchPath key (decode s .tree)) → digestOf s′ i ≡ digestOf s i
+  -- every count stays
+  pub counts : (i : ℕ) → 1 ≤ i → i ≤ decode s .capacity → countOf s′ i ≡ countOf s i
 
 -- get and iteration answer where in the store the key and value lie, as offsets and lengths
 pub record Lies (s : List ℕ) (key : Key) (value : Value) (f : Found) : Type 0 where
@@ -114,6 +116,8 @@ pub record Demand3 (capacity : ℕ) (s : List ℕ) (acc : List Edit) : Type 0 wh
   pub sound : Sound s
   -- each stored digest equals the one worked out afresh from its subtree
   pub digests : Digests s (decode s .tree)
+  -- and so does each stored count
+  pub counts : Counts current s (decode s .tree)
   -- the store holds exactly the keys that the accepted calls leave, each with its last value
   pub map : pairs (entries (decode s .tree)) ≡ mapAfter acc
   pub last : (key : Key) → find key (mapAfter acc) ≡ lastValue key acc

@@ -10,7 +10,7 @@ use lib.Seq.{take-all}
 use borrow.Author.Tests.{eq-eqb, ne-eqb, lt-ltb, le-ltb}
 use Rattle.hash_tree.specs.HashTree.{emptyHash}
 use Rattle.slots.specs.declared.Header.{Header}
-use Rattle.slots.specs.Layout.{storeLength, header, digestOf, zeros}
+use Rattle.slots.specs.Layout.{current, storeLength, header, digestOf, zeros}
 use Rattle.llrb.specs.Tree.{Tree, nil, node, size}
 use Rattle.llrb.specs.Digests.{subtreeDigest}
 use Rattle.store.specs.Numbers.{NotSound, BadCapacity, refused, done}
@@ -20,6 +20,7 @@ use Rattle.store.specs.Encode.{encode}
 use Rattle.store.specs.Answers as answers
 use Rattle.store.specs.Calls.{refuse, createAnswer, countAnswer, isEmptyAnswer, rootHashAnswer}
 use Rattle.store.proofs.Decoding.{on-sound, on-unsound}
+use Rattle.store.proofs.Seats.{marks-digests}
 use Rattle.judge.specs.Steps.{Within}
 use Rattle.judge.proofs.Judging.{good-of}
 use Rattle.judge.proofs.Walking.{root-within as top-within}
@@ -109,7 +110,7 @@ module _ (s : List ℕ) (a : Sound s) {h : Header} (e : h ≡ header s) where
   root-none x y = found (y ∙ none-is (a .0 .tree) (header s .capacity) (good-of s a .within) (sym root-is ∙ x))
 
   pub root-some : (h .root ≡ 0 → ⊥) → {d : List ℕ} → d ≡ digestOf s (h .root) → _≡_ {A = answers.Digested} (record { number = 0; digest = d }) (rootHashAnswer s)
-  root-some n y = found (y ∙ ap (digestOf s) root-is ∙ some-is (a .0 .tree) 0 (a .1 .laid .digests) (λ z. n (root-is ∙ z)))
+  root-some n y = found (y ∙ ap (digestOf s) root-is ∙ some-is (a .0 .tree) 0 (marks-digests current s (a .0 .tree) (a .1 .laid .marks)) (λ z. n (root-is ∙ z)))
 
   pub root-within : h .root ≤ header s .capacity
   root-within = subst (λ (z : ℕ). z ≤ header s .capacity) (sym root-is) (top-within (header s .capacity) (a .0 .tree) (good-of s a .within))

@@ -10,7 +10,7 @@ use lib.ListN.{length}
 use borrow.Author.Tests.{eqb-true, eqb-false, eq-eqb, ne-eqb}
 use Rattle.slots.specs.declared.Header.{Header}
 use Rattle.slots.specs.Bits.{Bytes}
-use Rattle.slots.specs.Layout.{storeLength, HasSlot, HeaderFits, header, slot, digestOf, freeSlot, zeros}
+use Rattle.slots.specs.Layout.{current, storeLength, HasSlot, HeaderFits, header, slot, markOf, noMark, freeSlot}
 use Rattle.slots.specs.Setters.{setHeader, clearSlot, Wrote, Headed}
 use Rattle.slots.proofs.Writing.{wrote-free, headed}
 use Rattle.llrb.specs.Tree.{size}
@@ -38,37 +38,37 @@ next-lt cap x p = go (eqb x cap) refl
     go false e = omega (arith, next-on cap x (eqb-false x cap e))
 
 abbrev pub freshHeader : ℕ → Header
-freshHeader cap = record { edition = 1; capacity = cap; live = 0; root = 0; free = 1; zero = 0 }
+freshHeader cap = record { edition = current; capacity = cap; live = 0; root = 0; free = 1; zero = 0 }
 
 -- ---- the loop over the slots
 
--- as far as it has come: the first n slots are free, each naming the next, with no digest
+-- as far as it has come: the first n slots are free, each naming the next, with no mark
 pub record Chained (cap : ℕ) (s : List ℕ) (n : ℕ) : Type 0 where
   pub len : length s ≡ storeLength cap
   pub bytes : Bytes s
   pub slots : (j : ℕ) → 1 ≤ j → j ≤ n → slot s j ≡ freeSlot (nextOf cap j)
-  pub digests : (j : ℕ) → 1 ≤ j → j ≤ n → digestOf s j ≡ zeros 32
+  pub marks : (j : ℕ) → 1 ≤ j → j ≤ n → markOf s j ≡ noMark
 
 pub chained-none : {cap : ℕ} {s : List ℕ} → length s ≡ storeLength cap → Bytes s → Chained cap s 0
-chained-none e b = record { len = e; bytes = b; slots = λ j p q. absurd (omega arith); digests = λ j p q. absurd (omega arith) }
+chained-none e b = record { len = e; bytes = b; slots = λ j p q. absurd (omega arith); marks = λ j p q. absurd (omega arith) }
 
 module _ {cap : ℕ} (most : cap ≤ 1024) {s : List ℕ} {n : ℕ} (a : Chained cap s n) where
   pub chained-slot : (x : ℕ) → 1 ≤ x → x ≤ cap → HasSlot (length s) x
   chained-slot x p q = record { low = p; high = omega arith; fits = omega (arith, a .len) }
 
   module _ {s′ : List ℕ} {y : ℕ} (p : n < cap) (ey : y ≡ nextOf cap (n + 1)) (e : s′ ≡ clearSlot s (n + 1) y) where
-    w : Wrote s s′ (n + 1) (freeSlot y) (zeros 32)
+    w : Wrote s s′ (n + 1) (freeSlot y) noMark
     w = wrote-free (chained-slot (n + 1) (omega arith) (omega arith)) e (omega (arith, ey, next-lt cap (n + 1) (omega arith)))
 
-    by : (j : ℕ) → 1 ≤ j → j ≤ n + 1 → (b : Bool) → eqb j (n + 1) ≡ b → (slot s′ j ≡ freeSlot (nextOf cap j)) × (digestOf s′ j ≡ zeros 32)
+    by : (j : ℕ) → 1 ≤ j → j ≤ n + 1 → (b : Bool) → eqb j (n + 1) ≡ b → (slot s′ j ≡ freeSlot (nextOf cap j)) × (markOf s′ j ≡ noMark)
     by j l q true x =
         let i : j ≡ n + 1 = eqb-true j (n + 1) x in
-        (ap (slot s′) i ∙ w .here ∙ ap freeSlot (ey ∙ ap (nextOf cap) (sym i)), ap (digestOf s′) i ∙ w .digest)
+        (ap (slot s′) i ∙ w .here ∙ ap freeSlot (ey ∙ ap (nextOf cap) (sym i)), ap (markOf s′) i ∙ w .mark)
     by j l q false x =
         let ne : j ≢ n + 1 = eqb-false j (n + 1) x in
         let there : HasSlot (length s) j = chained-slot j l (omega arith) in
         let less : j ≤ n = omega (arith, q, ne) in
-        (w .kept .slots j there ne ∙ a .slots j l less, w .kept .digests j there ne ∙ a .digests j l less)
+        (w .kept .slots j there ne ∙ a .slots j l less, w .kept .marks j there ne ∙ a .marks j l less)
 
     pub chained-next : Chained cap s′ (n + 1)
     chained-next =
@@ -76,7 +76,7 @@ module _ {cap : ℕ} (most : cap ≤ 1024) {s : List ℕ} {n : ℕ} (a : Chained
           len = w .kept .len ∙ a .len;
           bytes = w .kept .bytes (a .bytes);
           slots = λ j l q. by j l q (eqb j (n + 1)) refl .0;
-          digests = λ j l q. by j l q (eqb j (n + 1)) refl .1;
+          marks = λ j l q. by j l q (eqb j (n + 1)) refl .1;
         }
 
 -- ---- the header at last
@@ -101,7 +101,7 @@ module _ (cap : ℕ) (least : 1 ≤ cap) (most : cap ≤ 1024) {s s′ : List �
   chain x (suc m) p q =
       let there : HasSlot (length s) x = chained-slot most a x p (omega arith) in (
         h .slots x there ∙ a .slots x p (omega arith) ∙ ap freeSlot (sym (next-is x m (omega arith))),
-        h .digests x there ∙ a .digests x p (omega arith),
+        h .marks x there ∙ a .marks x p (omega arith),
         chain (suc x) m (omega arith) (omega arith),
       )
 
@@ -111,9 +111,9 @@ module _ (cap : ℕ) (least : 1 ≤ cap) (most : cap ≤ 1024) {s s′ : List �
       let f = first cap least in
       record {
         len = h .len ∙ a .len;
-        header = h .here ∙ (λ i. record { edition = 1; capacity = cap; live = 0; root = 0; free = sym f i; zero = 0 });
+        header = h .here ∙ (λ i. record { edition = current; capacity = cap; live = 0; root = 0; free = sym f i; zero = 0 });
         nodes = tt;
-        digests = tt;
+        marks = tt;
         chain = chain 1 cap (omega arith) (omega arith);
       }
 

@@ -5,6 +5,7 @@ use answers::Digested;
 use answers::MAX_CAPACITY;
 use answers::Told;
 use hash_tree::empty_hash;
+use slots::EDITION;
 use slots::Header;
 ghost use mathlib.Core.Path.{_≡_};
 ghost use Prim.Native.Nat.{_≤_};
@@ -45,7 +46,7 @@ fn lay(s: &mut [u8], cap: usize)
     slots::set_header(
         s,
         Header {
-            edition: 1,
+            edition: EDITION,
             capacity: cap,
             live: 0,
             root: 0,

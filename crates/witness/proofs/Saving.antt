@@ -14,7 +14,7 @@ use Rattle.key_order.specs.Order.{Key, cmp, pick}
 use Rattle.key_order.proofs.Laws.{lt-gt, cmp-eq}
 use Rattle.hash_tree.specs.HashTree.{HashTree}
 use Rattle.hash_tree.specs.Written.{write}
-use Rattle.slots.specs.Layout.{header, slot}
+use Rattle.slots.specs.Layout.{current, header, slot}
 use Rattle.llrb.specs.Tree.{Entry, Tree, nil, node, entries, get}
 use Rattle.llrb.specs.Sorted.{Sorted, Mem}
 use Rattle.llrb.proofs.Get.{get-find, find-some, find-none}
@@ -24,6 +24,7 @@ use Rattle.store.specs.Sound.{Represents, Sound}
 use Rattle.store.specs.Answers.{fitting}
 use Rattle.store.specs.Calls.{reversed, ofKey, ofRange, witnessed, asHashTreeAnswer, keysAnswer, witnessAnswer, keyRangeAnswer, valueRangeAnswer, keysWithPrefixAnswer}
 use Rattle.store.proofs.Decoding.{on-sound}
+use Rattle.store.proofs.Seats.{marks-digests}
 use Rattle.witness_trees.specs.Shown.{threeWayFork}
 use Rattle.witness_trees.specs.Witness.{Form, keysOnly, values, KeyBound, Exact, Neighbor, at, lowerBound, upperBound, rightPrefixNeighbor, lastArm, fullWitnessTree, rangeWitness, lookupAndBuildWitness, orTree, asHashTree, keys, keyRange, valueRange, keysWithPrefix, witness}
 use Rattle.witness_trees.specs.Rules.{InOrder, crossed}
@@ -95,7 +96,7 @@ module _ {s : List ℕ} {m : Model} (rep : Represents s m) where
   tree = m .tree
 
   pub laid : Laid s (header s .root) tree
-  laid = record { lies = represents-lies rep; digests = rep .laid .digests }
+  laid = record { lies = represents-lies rep; digests = marks-digests current s tree (rep .laid .marks) }
 
   ordered : Sorted (entries tree)
   ordered = rep .lawful .ordered

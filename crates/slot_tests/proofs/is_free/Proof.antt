@@ -1,6 +1,6 @@
 use borrow.Author.Tests.{not-true, not-false}
 use mathlib.Core.Path.{sym, ap, _∙_}
-use Rattle.slots.specs.Layout.{Slot}
+use Rattle.slots.specs.Layout.{Slot, Mark}
 use Rattle.runs.proofs.Testing.{clash, decides-via, decides-yes, decides-no}
 use Rattle.slot_tests.proofs.Testing.{key-at-is, value-at-is, digest-at-is, free-live, free-red, free-right, free-key, free-value, free-plain, free-by}
 use borrow.Author.Needs.{needs}
@@ -74,7 +74,7 @@ returns-9 c =
     (sym (key-at-is _ _ _ (c .before .before .before .before .before .before .before .key-at .ensures .0)) ∙ decides-yes (c .before .before .before .before .before .before .is-zero .result) (not-false (c .before .before .before .before .before .before .is-zero .result) (c .before .before .before .before .before .if7 .left)) (c .before .before .before .before .before .before .is-zero .ensures))
     (sym (value-at-is _ _ _ (c .before .before .before .before .value-at .ensures .0)) ∙ decides-yes (c .before .before .before .is-zero2 .result) (not-false (c .before .before .before .is-zero2 .result) (c .before .before .if8 .left)) (c .before .before .before .is-zero2 .ensures))
     (sym (digest-at-is _ _ _ (c .before .digest-at .ensures .0)) ∙ d))
-    (λ q. digest-at-is _ _ _ (c .before .digest-at .ensures .0) ∙ q .1) (c .is-zero3 .ensures)
+    (λ q. digest-at-is _ _ _ (c .before .digest-at .ensures .0) ∙ ap (λ (m : Mark). m .digest) (q .1)) (c .is-zero3 .ensures)
 
 pub is-free-spec : {M : Type 1} → statement M
 is-free-spec =

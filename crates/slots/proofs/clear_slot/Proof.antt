@@ -37,7 +37,7 @@ same-length c = search needs
 
 returns : tie.Need-returns
 returns c =
-    clear-steps _ _ _ _ _ _ (slot-steps _ _ _ _ (c .before .before .before .before .before .before .before .before .before .before .before .before .before .before .before .before .before .before .before .before .pre .0) (c .before .before .before .before .before .before .before .before .before .before .before .before .before .before .before .before .before .set-head .ensures) _ _ _ _ _ refl (c .before .before .before .before .before .before .before .before .before .before .before .before .before .before .key-at .ensures .0) (c .before .before .before .before .before .before .before .before .before .before .before .before .wipe .ensures) (c .before .before .before .before .before .before .before .before .before .value-at .ensures .0) (c .before .before .before .before .before .before .before .wipe2 .ensures)) (c .before .before .before .before .digest-at .ensures .0) (c .before .before .wipe3 .ensures)
+    clear-steps _ _ _ _ _ _ (slot-steps _ _ _ _ (c .before .before .before .before .before .before .before .before .before .before .before .before .before .before .before .before .before .before .before .before .pre .0) (c .before .before .before .before .before .before .before .before .before .before .before .before .before .before .before .before .before .set-head .ensures) _ _ _ _ _ _ refl (c .before .before .before .before .before .before .before .before .before .before .before .before .before .before .key-at .ensures .0) (c .before .before .before .before .before .before .before .before .before .before .before .before .wipe .ensures) (c .before .before .before .before .before .before .before .before .before .value-at .ensures .0) (c .before .before .before .before .before .before .before .wipe2 .ensures)) (c .before .before .before .before .digest-at .ensures .0) (c .before .before .wipe3 .ensures)
 
 pub clear-slot-spec : {M : Type 1} → statement M
 clear-slot-spec =

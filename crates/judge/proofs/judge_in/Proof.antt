@@ -5,8 +5,8 @@ use borrow.Author.Needs.{needs}
 use Rattle.judge.specs.Steps.{WalkSays}
 use Rattle.judge.proofs.Deciding.{decides-no, decides-yes}
 use Rattle.judge.proofs.Judging.{long-of, header-says, walk-none, left-over, chain-says}
-use Rattle.judge.proofs.judge.Statement.{statement}
-use Rattle.judge.proofs.judge.Tie as tie
+use Rattle.judge.proofs.judge_in.Statement.{statement}
+use Rattle.judge.proofs.judge_in.Tie as tie
 
 returns : tie.Need-returns
 returns c =
@@ -60,8 +60,8 @@ returns-5 c =
     let k = decides-yes (c .before .before .before .before .before .before .before .before .header-ok .result) (c .before .before .before .before .before .before .before .if2 .left) (c .before .before .before .before .before .before .before .before .header-ok .ensures) in
     chain-says (c .before .before .before .before .before .before .before .before .before .before .before .before .args .s .now) (c .before .before .before .before .before .before .before .before .before .header-of .ensures) (subst (WalkSays (c .before .before .before .before .before .before .before .before .before .before .before .before .args .s .now) (c .before .before .before .before .before .before .before .before .before .header-of .result .capacity) 20 (c .before .before .before .before .before .before .before .before .before .header-of .result .root) 0 (c .before .before .before .before .before .before .before .before .before .header-of .result .live) true) (c .before .before .before .before .last .given .1) (c .before .before .before .before .before .before .walk .ensures)) k (c .before .before .if3 .left) (c .chain-ok .result) (c .chain-ok .ensures)
 
-pub judge-spec : {M : Type 1} → statement M
-judge-spec =
+pub judge-in-spec : {M : Type 1} → statement M
+judge-in-spec =
     tie.close
     (tie.spec
     returns
