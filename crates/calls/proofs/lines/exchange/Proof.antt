@@ -1,61 +1,52 @@
+use mathlib.Core.Path.{_≡_, refl}
+use Prim.Native.Nat.{_+_, _-_, _≤_}
+use native.Mathlib.Omega.{arith}
+use lib.ListN.{length, length-set}
+use borrow.Author.Needs.{needs}
 use Rattle.calls.proofs.lines.exchange.Statement.{statement}
 use Rattle.calls.proofs.lines.exchange.Tie as tie
-use Rattle.calls.proofs.lines.exchange.Reads as reads
-use Rattle.calls.proofs.lines.exchange.Lts as lts
 
 abbrev Inv-loop : tie.InvT-loop
-Inv-loop both₀ half i₀ both i = ?
+Inv-loop both₀ half i₀ both i = (length both ≡ length both₀) × (half + half ≤ length both₀)
 
 abbrev μ-loop : tie.MeasureT-loop
-μ-loop both₀ half i₀ both i = ?
+μ-loop both₀ half i₀ both i = half - i
 
--- src/lines.rt:221:5
 loop-holds : tie.Need-loop-holds Inv-loop μ-loop
-loop-holds c = ?
+loop-holds c = (refl, omega arith)
 
--- src/lines.rt:222:17
 slice-read-b : tie.Need-slice-read-b Inv-loop μ-loop
-slice-read-b c = ?
+slice-read-b c = search needs
 
--- src/lines.rt:223:24
 add-both : tie.Need-add-both Inv-loop μ-loop
-add-both c = ?
+add-both c = search needs
 
--- src/lines.rt:223:19
 slice-read-both : tie.Need-slice-read-both Inv-loop μ-loop
-slice-read-both c = ?
+slice-read-both c = search needs
 
--- src/lines.rt:223:9
 slice-write-both : tie.Need-slice-write-both Inv-loop μ-loop
-slice-write-both c = ?
+slice-write-both c = search needs
 
--- src/lines.rt:224:14
 add-both-2 : tie.Need-add-both-2 Inv-loop μ-loop
-add-both-2 c = ?
+add-both-2 c = search needs
 
--- src/lines.rt:224:9
 slice-write-both-2 : tie.Need-slice-write-both-2 Inv-loop μ-loop
-slice-write-both-2 c = ?
+slice-write-both-2 c = simp length-set (omega arith)
 
--- src/lines.rt:225:9
 add-i : tie.Need-add-i Inv-loop μ-loop
-add-i c = ?
+add-i c = search needs
 
--- src/lines.rt:221:5
 loop-less : tie.Need-loop-less Inv-loop μ-loop
-loop-less c = ?
+loop-less c = search needs
 
--- src/lines.rt:221:5
 loop-again : tie.Need-loop-again Inv-loop μ-loop
-loop-again c = ?
+loop-again c = (simp (length-set, length-set) (c .before .before .before .loop .inv .0), c .before .before .before .loop .inv .1)
 
--- src/lines.rt:218:1
 same-length : tie.Need-same-length Inv-loop μ-loop
-same-length c = ?
+same-length c = search needs
 
--- src/lines.rt:218:1
 returns : tie.Need-returns Inv-loop μ-loop
-returns c = ?
+returns c = search needs
 
 pub exchange-spec : {M : Type 1} → statement M
 exchange-spec =
