@@ -312,7 +312,7 @@ fn answer(x: Asked, line: &[u8], both: &mut [u8], output: &mut [u8], sizes: Size
     let call = x.call;
     let a = part(line, x.a);
     if let Call::Setup(which) = call {
-        let half = both.len() / 2;
+        let half = within(both.len() / 2, both);
         return set_up(which, x.number, a, &mut both[..half], output.len(), sizes);
     }
     let m = within(sizes.output, output);

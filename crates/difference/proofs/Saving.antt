@@ -1,13 +1,14 @@
 -- The lines measured and written one after the other, and what the call answers of them.
-use Prim.Native.Nat.{ℕ, _+_, _-_, _≤_}
+use Prim.Native.Nat.{ℕ, _+_, _*_, _-_, _≤_}
 use mathlib.Core.Path.{_≡_, sym, ap, ap₂, subst, _∙_}
 use mathlib.Core.List.{List, [], _∷_, _++_, append-assoc, append-nil}
 use native.Mathlib.Omega.{arith}
 use native.Mathlib.Numerals.{add-one}
 use lib.ListN.{length, set, length-append, length-take}
 use borrow.Author.Tests.{le-ltb, lt-ltb, le-leb}
-use Rattle.slots.specs.Layout.{slot, keyOf}
-use Rattle.llrb.specs.Tree.{Entry}
+use Rattle.slots.specs.declared.Header.{Header}
+use Rattle.slots.specs.Layout.{header, slot, keyOf}
+use Rattle.llrb.specs.Tree.{Entry, size}
 use Rattle.llrb.specs.Map.{pairs}
 use Rattle.llrb.specs.Difference.{Line, difference}
 use Rattle.answers.specs.Answers.{answered, putFront}
@@ -17,8 +18,9 @@ use Rattle.output.specs.Putting.{Puts, roomAfter}
 use Rattle.output.proofs.Putting.{puts-none, puts-then, puts-length, puts-front, room-then, room-zero, room-left, room-short}
 use Rattle.store.specs.Sound.{Sound}
 use Rattle.store.specs.Difference.{lineBytes, linesBytes, differenceAnswer}
-use Rattle.store.proofs.Decoding.{sound-decodes}
-use Rattle.store.proofs.Difference.{difference-of}
+use Rattle.store.specs.Decode.{decode}
+use Rattle.store.proofs.Decoding.{sound-decodes, live-and-free}
+use Rattle.store.proofs.Difference.{difference-of, difference-most}
 use Rattle.search.specs.declared.Found.{Found}
 use Rattle.search.specs.Search.{EntryAt}
 use Rattle.difference.specs.declared.Change.{Change}
@@ -150,9 +152,19 @@ module _ {old new : List ℕ} (p : Sound old) (q : Sound new) (out : List ℕ) w
       none [] l k = rw (le-ltb (length out) 0 (omega arith))
       none (x ∷ w) l k = absurd (omega (arith, l, left-by (length (x ∷ w)) (length out) l k))
 
-  pub put-answer : {r : Room} {n : ℕ} → r ≡ roomAfter (length bytes) (Left (length out)) → r ≡ Left n → {out′ : List ℕ} {k : ℕ} → Puts out out′ 0 k bytes
-      → answered (record { number = 0; size = k }) out′ ≡ differenceAnswer old new out
-  put-answer e f {out′} {k} u =
-      let h = fits e f in
+  pub put-answer : length bytes ≤ length out → {out′ : List ℕ} {k : ℕ} → Puts out out′ 0 k bytes → answered (record { number = 0; size = k }) out′ ≡ differenceAnswer old new out
+  put-answer h {out′} {k} u =
       let z = puts-front bytes h u in
       sym (answer ∙ rw (le-ltb (length out) (length bytes) h) (sym (λ i. record { number = 0; size = z .0 i; output = z .1 i })))
+
+-- ---- room for any list
+
+live-is : {s : List ℕ} → Sound s → {h : Header} → h ≡ header s → h .live ≡ size (decode s .tree)
+live-is p e = ap (λ (x : Header). x .live) (e ∙ sound-decodes p .laid .header)
+
+pub live-few : {s : List ℕ} → Sound s → {h : Header} → h ≡ header s → h .live ≤ 1024
+live-few p e = let g = sound-decodes p .lawful in omega (arith, live-is p e, live-and-free g, g .most)
+
+pub ample : {old new : List ℕ} → Sound old → Sound new → {h g : Header} → h ≡ header old → g ≡ header new → {n : ℕ} → 49 * (h .live + g .live) ≤ n
+    → length (linesBytes (allLines old new)) ≤ n
+ample p q e f l = omega (arith, l, difference-most (sound-decodes p .lawful) (sound-decodes q .lawful), live-is p e, live-is q f)

@@ -15,6 +15,7 @@ use slots::header_of;
 use slots::key;
 use slots::value;
 ghost use mathlib.Core.Path.{_≡_};
+ghost use mathlib.Core.Bool.{true};
 ghost use mathlib.Core.List.{_∷_};
 ghost use Prim.Native.Nat.{_+_, _*_, _≤_, _<_};
 ghost use lib.ListN.{length};
@@ -225,11 +226,27 @@ fn put_lines(old: &[u8], new: &[u8], out: &mut [u8]) -> usize
     }
 }
 
-// The lines at the front of the output, if there is room for them. Where there are none nothing is walked twice.
+// Whether there is room for any list of these stores: a line of 49 bytes for each entry.
+fn is_ample(old: &[u8], new: &[u8], room: usize) -> bool
+    requires { ⌜ (Sound (now old)) × (Sound (now new)) ⌝ }
+    ensures { λ r. ⌜ (r ≡ true → length (linesBytes (allLines (now (old .entry)) (now (new .entry)))) ≤ room) ⌝ }
+{
+    if 49 * (header_of(old).live + header_of(new).live) <= room {
+        return true;
+    }
+    false
+}
+
+// The lines at the front of the output, if there is room for them. Where there is room for any list, or there are no lines, nothing is
+// walked twice.
 pub fn difference(old: &[u8], new: &[u8], out: &mut [u8]) -> Saved
     requires { ⌜ (Sound (now old)) × (Sound (now new)) ⌝ }
     ensures { λ r. ⌜ answered r (now (out .exit)) ≡ differenceAnswer (now (old .entry)) (now (new .entry)) (now (out .entry)) ⌝ }
 {
+    if is_ample(old, new, out.len()) {
+        let size = put_lines(old, new, out);
+        return Saved { number: 0, size };
+    }
     let Room::Left(left) = fit(old, new, Room::Left(out.len())) else {
         return Saved {
             number: NO_ROOM,

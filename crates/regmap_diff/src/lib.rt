@@ -28,7 +28,7 @@ const ROOM: usize = 153_609;
 const LONGEST: usize = 100_352;
 
 // The value of a name; none, if it is not there.
-fn value_of(store: &[u8], key: &[u8]) -> &[u8]
+fn value_of<'a>(store: &'a [u8], key: &[u8]) -> &'a [u8]
     requires { ⌜ Sound (now store) ⌝ }
     requires { ⌜ length (now key) ≤ 48 ⌝ }
 {
