@@ -32,7 +32,7 @@ static void fill(uint8_t *store, size_t key_length, size_t value_length, int fro
   }
 }
 
-static void measure(const char *what, size_t wanted) {
+static void measure(const char *what, size_t wanted, size_t room) {
   double both = 1e9, lines = 1e9;
   for (int turn = 0; turn < TURNS; turn++) {
     size_t count = 0, length = 0;
@@ -41,11 +41,11 @@ static void measure(const char *what, size_t wanted) {
     t = cpu() - t;
     if (t < both) both = t;
     t = cpu();
-    must(dampcandle_difference(old, sizeof old, new, sizeof new, out, sizeof out, &length) == 0 && length == wanted, "difference");
+    must(dampcandle_difference(old, sizeof old, new, sizeof new, out, room, &length) == 0 && length == wanted, "difference");
     t = cpu() - t;
     if (t < lines) lines = t;
   }
-  printf("  %-34s judging both %.3f ms   difference %.3f ms   %.3f\n", what, both * 1e3, lines * 1e3, lines / both);
+  printf("  %-38s judging both %.3f ms   difference %.3f ms   %.3f\n", what, both * 1e3, lines * 1e3, lines / both);
 }
 
 int main(void) {
@@ -55,10 +55,11 @@ int main(void) {
     fill(old, key, value, 0, 0, 0);
     fill(new, key, value, 0, 1, 0);
     must(memcmp(old, new, sizeof old) != 0, "the two stores are the same bytes");
-    measure("equal maps in other shapes", 0);
+    measure("equal maps in other shapes", 0, sizeof out);
     fill(new, key, value, 0, 1, 1);
-    measure("all values changed, in the last byte", ENTRIES * (1 + key));
+    measure("all values changed in their last byte", ENTRIES * (1 + key), sizeof out);
+    measure("  .. no byte of output to spare", ENTRIES * (1 + key), ENTRIES * (1 + key));
     fill(new, key, value, ENTRIES, 0, 0);
-    measure("no key in both", 2 * ENTRIES * (1 + key));
+    measure("no key in both", 2 * ENTRIES * (1 + key), sizeof out);
   }
 }

@@ -283,7 +283,7 @@ fn beside(r: &mut Random, store: &Store) -> Vec<String> {
     let mut out = vec![format!("room {}", [n, n, n.saturating_sub(1), r.below(n + 1), 131_072][r.below(5)])];
     if r.chance(2) {
         let bytes = if r.chance(4) { damaged(r, copy.bytes()) } else { copy.bytes() };
-        out.extend(["swap".into(), format!("load {}", hex(&bytes)), "diff".into(), "sum".into(), "swap".into()]);
+        out.extend(["swap".into(), format!("load {}", hex(&bytes)), "sum".into(), "diff".into(), "sum".into(), "swap".into()]);
     }
     out.extend(["sum".into(), "diff".into(), "sum".into()]);
     out
