@@ -31,11 +31,10 @@ returns-4 c =
     λ a. decides-no (c .before .is-entry .result) (c .if4 .taken) (c .before .is-entry .ensures) (a .entry)
 
 count-ok-requires : tie.Need-count-ok-requires
-count-ok-requires c κs =
-    (
-    links-in (c .before .before .before .before .before .before .before .before .before .args .s .now) (c .before .before .before .before .before .before .before .before .before .args .cap) (c .before .before .before .before .before .before .before .before .before .args .i) (c .before .before .before .before .before .before .before .before .before .args .black) (c .before .before .before .before .before .before .before .before .before .pre .1 .1) (c .before .before .before .before .before .before .before .before .before .pre .0) (c .before .before .before .before .before .before .before .before .before .pre .1 .0) (c .before .before .before .before .if2 .left) (c .before .before .if3 .left) (decides-yes (c .before .is-entry .result) (c .if4 .left) (c .before .is-entry .ensures)),
-    count-of (c .before .before .before .before .before .before .before .before .before .args .s .now) (c .before .before .before .before .before .before .before .before .before .args .cap) (c .before .before .before .before .before .before .before .before .before .args .i) (c .before .before .before .before .before .before .before .before .before .args .black) (c .before .before .before .before .before .before .before .before .before .pre .1 .1),
-    )
+count-ok-requires c κs = (
+  links-in (c .before .before .before .before .before .before .before .before .before .args .s .now) (c .before .before .before .before .before .before .before .before .before .args .cap) (c .before .before .before .before .before .before .before .before .before .args .i) (c .before .before .before .before .before .before .before .before .before .args .black) (c .before .before .before .before .before .before .before .before .before .pre .1 .1) (c .before .before .before .before .before .before .before .before .before .pre .0) (c .before .before .before .before .before .before .before .before .before .pre .1 .0) (c .before .before .before .before .if2 .left) (c .before .before .if3 .left) (decides-yes (c .before .is-entry .result) (c .if4 .left) (c .before .is-entry .ensures)),
+  count-of (c .before .before .before .before .before .before .before .before .before .args .s .now) (c .before .before .before .before .before .before .before .before .before .args .cap) (c .before .before .before .before .before .before .before .before .before .args .i) (c .before .before .before .before .before .before .before .before .before .args .black) (c .before .before .before .before .before .before .before .before .before .pre .1 .1),
+)
 
 returns-5 : tie.Need-returns-5
 returns-5 c =
