@@ -18,3 +18,4 @@ pub mod Viewing
 pub mod Longest
 pub mod Logs
 pub mod Replaying
+pub mod Moving

@@ -21,3 +21,4 @@ pub mod Table
 pub mod Demand
 pub mod Longest
 pub mod Viewed
+pub mod Moves
