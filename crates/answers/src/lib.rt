@@ -1,5 +1,6 @@
 // The numbers that a call may answer (documents 01 and 02), the limits that they speak of, and what the calls hand back beside a
 // number. The definitions use these structs as they stand here: an answer of the code is one on paper, with nothing to translate.
+#![tactic(auto)]
 
 // ---- numbers: 0 is done
 

@@ -1,5 +1,7 @@
 // The public calls for C (include/dampcandle.h). Each answers its number; whatever else it answers goes into what it is lent for that,
 // and a refusal leaves this as it was. A slice is a pointer and a length.
+#![tactic(auto)]
+
 ghost use Rattle.std.specs.Prelude.{◌≡◌, List, ℕ};
 ghost use Rattle.sha256.specs.Hashed.{hashed};
 ghost use Rattle.hash_tree.specs.Whole.{rebuilt};

@@ -5,6 +5,8 @@
 // Landed: every line of the base: buffer, load, poke, room, create, insert, modify, delete, get, first, next, count, empty, root,
 // full, keys, witness, krange, vrange, prefix, rebuild, hash, store, sum; of the later requests ask (Q-1), merge (Q-14), begin, part,
 // end (Q-8), tocbor, fromcbor (Q-9), replay (Q-12), and swap, diff (Q-3). 4 is by the rule of Q-7.
+#![tactic(auto)]
+
 mod asked;
 mod input;
 mod lines;

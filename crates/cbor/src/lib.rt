@@ -1,5 +1,7 @@
 // A witness in CBOR, as the Interface Specification writes hash trees: written from document 01's form, and read back into it. Either way
 // one walk judges the bytes and takes the room, and then record after record is put: parent first in both forms, and nothing is hashed.
+#![tactic(auto)]
+
 ghost use Rattle.std.specs.Prelude.{◌≡◌, [], ◌∷◌, ◌+◌, ◌≤◌, ◌<◌, length, drop};
 ghost use Rattle.answers.specs.Numbers.{number_of};
 ghost use Rattle.answers.specs.Answers.{answered, unwritten};

@@ -1,5 +1,7 @@
 // The difference of two stores known to be sound: their entries are walked together in key order, first to learn how much room the lines
 // take, then to write them. Values are compared by their bytes; equal digests would prove nothing.
+#![tactic(auto)]
+
 ghost use Rattle.std.specs.Prelude.{◌≡◌, true, ◌∷◌, ◌+◌, ◌*◌, ◌≤◌, ◌<◌, length};
 ghost use Rattle.answers.specs.Answers.{answered};
 ghost use Rattle.output.specs.Putting.{Puts, room_after};

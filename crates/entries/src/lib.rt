@@ -1,4 +1,6 @@
 // The entry in a slot: its key compared, and its digests and count, which the tree, the judge and the witnesses all work out here.
+#![tactic(auto)]
+
 ghost use Rattle.std.specs.Prelude.{◌≡◌, ◌≤◌, ◌<◌, length};
 ghost use Rattle.key_order.specs.Order.{cmp};
 ghost use Rattle.slots.specs.Layout.{HasSlot, slot, key_of};

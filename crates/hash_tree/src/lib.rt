@@ -1,4 +1,6 @@
 // Hash trees: the four digests, and the digest of a tree rebuilt from its written form.
+#![tactic(auto)]
+
 ghost use Rattle.std.specs.Prelude.{◌≡◌, ◌+◌, ◌-◌, ◌≤◌, ◌<◌, length, take, drop};
 ghost use Rattle.hash_tree.specs.HashTree.{empty_hash, fork_hash, labeled_hash, leaf_hash};
 ghost use Rattle.hash_tree.specs.Record.{record_of, place_after, least, most};

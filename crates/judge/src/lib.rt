@@ -3,6 +3,8 @@
 // One walk over the tree, in order, and one over the free chain; each digest is worked out once, from the children's stored ones.
 // No slot is marked: keys that rise strictly name a slot once, a chain that ends names a slot once, live bits keep the two apart,
 // and the counts say that nothing is left over. Links that form a cycle break the order of keys at the first slot met again.
+#![tactic(auto)]
+
 ghost use Rattle.std.specs.Prelude.{◌≡◌, true, false, ◌≤◌, length};
 ghost use Rattle.slots.specs.Layout.{HasSlot, Decides, count_in, header, slot, count_of, head_of, key_of};
 ghost use Rattle.entries.specs.Digests.{LinksIn, linked_count};

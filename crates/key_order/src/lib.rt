@@ -1,4 +1,6 @@
 // Byte strings as keys: their order, and where they part.
+#![tactic(auto)]
+
 ghost use Rattle.std.specs.Prelude.{◌≡◌, ◌+◌, ◌-◌, ◌/◌, ◌^◌, ◌<◌, ◌≤◌, length, ◌≢◌};
 ghost use Rattle.key_order.specs.Order.{cmp, compared, is_same, is_below};
 ghost use Rattle.key_order.specs.Words.{word};

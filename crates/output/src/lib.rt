@@ -1,4 +1,6 @@
 // What writes to an output: the room that is left in it, and bytes and records of the written form put one after the other.
+#![tactic(auto)]
+
 ghost use Rattle.std.specs.Prelude.{◌≡◌, ◌+◌, ◌≤◌, ◌<◌, length};
 ghost use Rattle.hash_tree.specs.Written.{head, piece};
 ghost use Rattle.output.specs.Putting.{Puts, room_after};

@@ -1,4 +1,6 @@
 // `balance`, the rotations and `flip_colors` of the Rust's `rb_tree`, over the slots of a store.
+#![tactic(auto)]
+
 ghost use Rattle.std.specs.Prelude.{◌≡◌, not, length};
 ghost use Rattle.slots.specs.Layout.{HasSlot, slot};
 ghost use Rattle.slots.specs.Setters.{set_red};

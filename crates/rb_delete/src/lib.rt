@@ -1,4 +1,6 @@
 // The Rust's delete on a tree in the slots of a store. Digests are left stale.
+#![tactic(auto)]
+
 ghost use Rattle.std.specs.Prelude.{◌≡◌, false};
 ghost use Rattle.llrb.specs.Tree.{Tree, Entry, paint};
 ghost use Rattle.llrb.specs.Delete.{least, ready};

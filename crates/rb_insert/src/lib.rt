@@ -1,4 +1,6 @@
 // The Rust's insert and modify on a tree in the slots of a store. Digests are left stale.
+#![tactic(auto)]
+
 ghost use Rattle.rb_insert.specs.Inserts.{CanInsert, DoesInsert, DoesPut, CanModify, DoesModify};
 
 // `go` of the Rust's modify: digests on the path are marked stale, no other.

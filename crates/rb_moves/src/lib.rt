@@ -1,4 +1,6 @@
 // What the Rust's delete does to the tree on its way down, over the slots of a store.
+#![tactic(auto)]
+
 ghost use Rattle.llrb.specs.Panic.{move_red_left₂_p, move_red_right₂_p, ready_left_p, ready_right_p, lean_right_p};
 ghost use Rattle.rb_nodes.specs.Heap.{Marked, Can, Does, CanAt, DoesAt};
 ghost use Rattle.rb_moves.specs.Moves.{move_red_left_p, move_red_right_p};

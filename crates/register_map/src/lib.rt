@@ -1,5 +1,7 @@
 // The register map store: every public call of document 01. Any bytes may arrive as store, key, value, output, witness or message.
 // Each call answers a number of document 01, 0 if it is done, and is one function of what it is lent (crate store, specs/Calls).
+#![tactic(auto)]
+
 ghost use Rattle.std.specs.Prelude.{◌≡◌};
 ghost use Rattle.sha256.specs.Hashed.{hashed};
 ghost use Rattle.hash_tree.specs.Whole.{rebuilt};

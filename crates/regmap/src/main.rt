@@ -1,5 +1,7 @@
 // The tool of a release desk: makes a store from a map of registers, changes it, cuts witnesses from it, checks and reads them.
 // Every answer comes from the proved calls; here are words, files and text. docs/REGMAP.md lists the commands.
+#![tactic(auto)]
+
 mod build;
 mod commands;
 mod replays;

@@ -1,4 +1,6 @@
 // One name asked of a witness, for a person: a line that says what is known of it. To be asked of a file that matched its root digest.
+#![tactic(auto)]
+
 use hash_tree::{LABELED, LEAF, MAX_DEPTH, Place, Record, tree_at};
 use key_order::below;
 use lookup::{Looked, lookup};

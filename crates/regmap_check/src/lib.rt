@@ -1,4 +1,6 @@
 // Commands that check, show, ask, merge and exchange witnesses: they need no store.
+#![tactic(auto)]
+
 pub mod exchange;
 mod stream;
 

@@ -1,4 +1,6 @@
 // The registers that differ between two stores: both are judged once, the list is taken once, and each line's values are looked up.
+#![tactic(auto)]
+
 ghost use Rattle.std.specs.Prelude.{◌+◌, ◌≤◌, ◌<◌, length};
 ghost use Rattle.store.specs.Sound.{Sound};
 

@@ -1,5 +1,7 @@
 // Files for the tool: read whole, written whole or not at all, held while they are changed, and told apart by their first bytes.
 // A name `-` is standard input where a file is read, and standard output where one is written.
+#![tactic(auto)]
+
 use text::print::{say, say_number, say3};
 use text::words::{is, part, word};
 

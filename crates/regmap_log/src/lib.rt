@@ -1,4 +1,6 @@
 // A build log shown, a line a record, and what is wrong with the first record that is malformed.
+#![tactic(auto)]
+
 use regmap_files::{Loaded, load};
 use regmap_words::says::{DONE, OUT, REFUSED, TROUBLE};
 use replay::{Fault, INSERT, LogRecord, MODIFY, record_at};

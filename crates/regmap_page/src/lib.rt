@@ -1,5 +1,7 @@
 // A witness that rebuild took as one page of HTML with no script in it: the verdict, what is shown, hidden and proved to be empty, in the
 // order of names, and the tree as SVG: names and hidden parts one below the other, the tree to their left.
+#![tactic(auto)]
+
 use hash_tree::{FORK, LABELED, LEAF, MAX_DEPTH, PRUNED, Record};
 use regmap_show::counts::{counted, say_counts};
 use text::print::{is_plain, say, say_hex, say_number, say3};

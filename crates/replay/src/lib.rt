@@ -1,5 +1,7 @@
 // A build log of document 02's request Q-12, run on a store known to be sound: the log is read whole before anything is changed, then its
 // records run in order as one batch, so that each digest is made once.
+#![tactic(auto)]
+
 ghost use Rattle.std.specs.Prelude.{◌≡◌, ◌-◌, ◌<◌, length, drop};
 ghost use Rattle.slots.specs.Layout.{Decides};
 ghost use Rattle.store.specs.Model.{Model};

@@ -1,4 +1,6 @@
 // Runs of bytes: numbers most significant byte first, zeros, padded strings, copies within.
+#![tactic(auto)]
+
 ghost use Rattle.std.specs.Prelude.{◌≡◌, ◌+◌, ◌≤◌, ◌<◌, length};
 ghost use Rattle.std.proofs.lemmas.List.Edits.{sets};
 ghost use Rattle.runs.specs.Bits.{octets, fields};

@@ -1,5 +1,7 @@
 // Searches over the slots of a store that holds a tree: `get`, the bounds of a range, and iteration. Each is a single loop that goes
 // down from the root and carries the best slot met so far.
+#![tactic(auto)]
+
 ghost use Rattle.std.specs.Prelude.{◌≡◌, ◌≤◌, length};
 ghost use Rattle.llrb.specs.Tree.{Tree, get as get_entry};
 ghost use Rattle.llrb.specs.Iterate.{first_entry, next_entry};

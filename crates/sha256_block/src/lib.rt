@@ -1,4 +1,6 @@
 // FIPS 180-4, section 6.2.2: what one block does to the hash value. Sixteen words of the schedule are kept and worked over.
+#![tactic(auto)]
+
 ghost use Rattle.std.specs.Prelude.{◌≡◌, ℕ, suc, ◌<◌, ◌≤◌, List, length};
 ghost use Rattle.sha256_words.specs.Words.{ADD, σ₀, σ₁};
 ghost use Rattle.sha256_words.specs.Constants.{K as constants};

@@ -1,4 +1,6 @@
 // FIPS 180-4, section 4.1.2: the six functions on words; and words as bytes, the highest first.
+#![tactic(auto)]
+
 ghost use Rattle.std.specs.Prelude.{◌≡◌, ◌+◌, ◌*◌, ◌/◌, ◌%◌, ◌^◌, ◌≤◌, ◌<◌, length};
 ghost use Rattle.std.proofs.lemmas.List.Edits.{sets};
 ghost use Rattle.sha256_words.specs.Words.{ROTR, Ch, Maj, Σ₀, Σ₁, σ₀, σ₁, word_at, bytes_of};

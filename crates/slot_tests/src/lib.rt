@@ -1,4 +1,6 @@
 // Whether a slot is laid out as an entry's, or as a free one: lengths, and zero bytes past the lengths. An entry's mark is not looked at here.
+#![tactic(auto)]
+
 ghost use Rattle.std.specs.Prelude.{◌≡◌, ◌≤◌, length, take};
 ghost use Rattle.runs.specs.Runs.{padded, Decides};
 ghost use Rattle.slots.specs.Limits.{max_key, max_value};

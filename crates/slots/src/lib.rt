@@ -1,4 +1,6 @@
 // The bytes of a store (document 01, "Store layout"): the only crate that knows where a bit lies.
+#![tactic(auto)]
+
 ghost use Rattle.std.specs.Prelude.{◌≡◌, ◌+◌, ◌≤◌, ◌<◌, length, take, true};
 ghost use Rattle.runs.specs.Bits.{bit};
 ghost use Rattle.slots.specs.Limits.{max_capacity, max_key, max_value, store_length};

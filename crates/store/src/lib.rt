@@ -1,1 +1,2 @@
 // What a store means, and what each public call answers: specs/ and proofs/ only.
+#![tactic(auto)]

@@ -1,5 +1,7 @@
 // What bench/ measures, and nothing else: the functions for callers that know a store to be sound, called for each row of a table
 // after one judging. A row has 64 bytes; its front is the key or the value.
+#![tactic(auto)]
+
 ghost use Rattle.std.specs.Prelude.{◌≡◌, ◌≤◌, length};
 ghost use Rattle.runs.specs.Runs.{Decides};
 ghost use Rattle.store.specs.Sound.{Sound};

@@ -1,4 +1,6 @@
 // The calls that concern a store as a whole: create of any bytes; count, is_empty and root_hash of a sound store.
+#![tactic(auto)]
+
 ghost use Rattle.std.specs.Prelude.{◌≡◌, ◌≤◌, length};
 ghost use Rattle.slots.specs.Layout.{HasSlot, digest_of};
 ghost use Rattle.store.specs.Model.{fresh};

@@ -1,4 +1,6 @@
 // The witnesses of a store, written: first the room that a witness takes, then its records, parent first.
+#![tactic(auto)]
+
 ghost use Rattle.std.specs.Prelude.{◌≡◌, ◌+◌, ◌≤◌, length};
 ghost use Rattle.llrb.specs.Digests.{data_digest};
 ghost use Rattle.search.specs.Search.{EntryAt};

@@ -1,5 +1,7 @@
 // A witness and a place in it: a struct that holds the slice, for reading record after record, parent first.
 // The work is done in hash_tree; each function here takes the struct apart.
+#![tactic(auto)]
+
 ghost use Rattle.std.specs.Prelude.{◌≡◌, drop};
 ghost use Rattle.hash_tree.specs.Record.{record_of, place_after};
 

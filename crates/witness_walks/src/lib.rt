@@ -1,5 +1,7 @@
 // The walks of the Rust over the slots of a store. The `HashTree` on the heap becomes the written form, parent first: so a walk says
 // what becomes of a node's three parts before any of them is made, and three_way_fork joins them by their kinds alone.
+#![tactic(auto)]
+
 mod fork;
 
 ghost use Rattle.std.specs.Prelude.{◌≡◌};

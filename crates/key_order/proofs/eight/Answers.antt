@@ -1,0 +1,7 @@
+use Rattle.std.proofs.Common.{arith, rules}
+use Rattle.key_order.proofs.Words.{word-eight}
+use Rattle.key_order.proofs.eight.Goals as goal
+
+pub returns : goal.returns
+returns c =
+    omega (arith, word-eight c.args.s.now c.args.i, c.four.ensures, c.four-2.ensures)
