@@ -1,0 +1,7 @@
+use Rattle.sha256_words.specs.Words.{word_at}
+use borrow.Author.Rules.{rules}
+use Rattle.sha256_words.proofs.word_at.Goals as goal
+
+pub returns : goal.returns
+unfolding word_at
+returns c = c.word.ensures
