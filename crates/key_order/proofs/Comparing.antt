@@ -1,5 +1,5 @@
 -- A comparison of two strings, as far as it has come.
-use Rattle.std.proofs.Common.{◌≡◌, ℕ, suc, ◌+◌, ◌<◌, ◌≤◌, List, [], ◌∷◌, length, get_or, drop, sym, refl, ap, ◌∙◌, ap₂, add-one, arith, drop-cons, le-ltb, lt-ltb}
+use Rattle.std.proofs.Common.{◌≡◌, ℕ, suc, ◌+◌, ◌<◌, ◌≤◌, List, [], length, get_or, drop, sym, refl, ap, ◌∙◌, ap₂, add-one, arith, drop-cons, le-ltb, lt-ltb}
 use lib.Seq.{drop-length}
 use Rattle.key_order.specs.declared.Ordering.TheVariants.{Less, Equal, Greater}
 use Rattle.key_order.specs.Order.{cmp, common, compared}

@@ -101,7 +101,7 @@ fn words(block: &[u8]) -> [u32; 16]
 }
 
 // The eight working variables, and a hash value.
-#[derive(Drop)]
+#[derive(Clone, Copy)]
 pub struct Eight {
     pub a: u32,
     pub b: u32,

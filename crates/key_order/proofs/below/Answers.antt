@@ -1,5 +1,5 @@
 -- `key_order::below` meets its contract: each arm is the answer picked by the order.
-use Rattle.std.proofs.Common.{true, false, sym, ap, ◌∙◌, rules}
+use Rattle.std.proofs.Common.{true, false, sym, ap, ◌∙◌}
 use Rattle.key_order.specs.declared.Ordering.{Ordering}
 use Rattle.key_order.specs.Order.{pick}
 use Rattle.key_order.proofs.below.Goals as goal

@@ -1,5 +1,5 @@
-use Rattle.std.proofs.Common.{◌-◌, ◌≤◌, length, refl, arith, rules}
-use Rattle.key_order.proofs.Comparing.{Upto, ends-both, ends-a, ends-b, at_less, at_more, at_same, parts-a, parts-b, parts_at, both}
+use Rattle.std.proofs.Common.{refl, arith}
+use Rattle.key_order.proofs.Comparing.{ends-both, ends-a, ends-b, at_less, at_more, at_same, parts-a, parts-b, parts_at, both}
 use Rattle.key_order.proofs.Words.{says, unlike}
 use Rattle.key_order.proofs.compare.Goals as goal
 

@@ -1,6 +1,5 @@
-use Rattle.std.proofs.Common.{◌-◌, ◌≤◌, length, refl, arith, rules}
-use Rattle.key_order.proofs.Comparing.{Upto, ends-both, ends-a, ends-b, at_less, at_more, at_same, parts-a, parts-b, parts_at, both}
-use Rattle.key_order.proofs.Words.{says, unlike}
+use Rattle.std.proofs.Common.{◌-◌, ◌≤◌, length}
+use Rattle.key_order.proofs.Comparing.{Upto}
 use Rattle.key_order.proofs.compare.Given as goal
 
 abbrev pub invariant-loop-i : goal.invariant-loop-i

@@ -1,4 +1,4 @@
-use Rattle.std.proofs.Common.{arith, rules}
+use Rattle.std.proofs.Common.{arith}
 use Rattle.key_order.proofs.Words.{word-eight}
 use Rattle.key_order.proofs.eight.Goals as goal
 

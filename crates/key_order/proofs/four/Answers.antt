@@ -1,4 +1,4 @@
-use Rattle.std.proofs.Common.{arith, rules}
+use Rattle.std.proofs.Common.{arith}
 use Rattle.key_order.proofs.Words.{word-four}
 use Rattle.key_order.proofs.four.Goals as goal
 

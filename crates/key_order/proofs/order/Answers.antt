@@ -1,4 +1,4 @@
-use Rattle.std.proofs.Common.{ap, rules}
+use Rattle.std.proofs.Common.{ap}
 use Rattle.key_order.specs.declared.Compared.{Compared}
 use Rattle.key_order.proofs.order.Goals as goal
 

@@ -1,4 +1,3 @@
-use borrow.Author.Rules.{rules}
 use Rattle.sha256_words.specs.Words.{XOR, Σ₀}
 use Rattle.sha256_words.proofs.big_sigma0.Goals as goal
 

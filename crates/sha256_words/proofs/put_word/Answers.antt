@@ -3,7 +3,6 @@ use native.Mathlib.Numerals.{add-one, add-two, add-three}
 use Rattle.sha256_words.specs.Words.{bytes_of}
 use lib.ListN.{length-set}
 use native.Mathlib.Omega.{arith}
-use borrow.Author.Rules.{rules}
 use Rattle.sha256_words.proofs.put_word.Goals as goal
 
 pub bounds-out-at-2 : goal.bounds-out-at-2

@@ -1,5 +1,4 @@
 use mathlib.Core.Path.{refl}
-use borrow.Author.Rules.{rules}
 use Rattle.sha256_words.specs.Words.{OR, SHL, SHR, ROTR}
 use Rattle.sha256_words.proofs.rotr.Goals as goal
 

@@ -1,4 +1,3 @@
-use borrow.Author.Rules.{rules}
 use Rattle.sha256_words.specs.Words.{XOR, SHR, σ₁}
 use Rattle.sha256_words.proofs.small_sigma1.Goals as goal
 

@@ -1,5 +1,4 @@
 use Rattle.sha256_words.specs.Words.{word_at}
-use borrow.Author.Rules.{rules}
 use Rattle.sha256_words.proofs.word_at.Goals as goal
 
 pub returns : goal.returns
