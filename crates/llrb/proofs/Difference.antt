@@ -1,6 +1,6 @@
 -- The difference of two maps in key order is the one list that says of each key what its two values say; it is empty exactly when the
 -- maps are equal.
-use mathlib.Core.Path.{◌≡◌, refl, sym, ap, ap₂, ◌∙◌}
+use mathlib.Core.Path.{◌≡◌, refl, sym, ap, ap₂, ◌∙◌, subst}
 use mathlib.Core.Bool.{Bool, true, false, cond}
 use mathlib.Core.Logic.{inl, inr}
 use mathlib.Core.Option.{Option, none, some}
@@ -85,7 +85,7 @@ module _ {Val : Type 0} where
       go Greater w ih = absurd (none≢some (sym (h q.key) ∙ before-none q.key p A a.0 (gt-lt p.key q.key w)) (find_first q B))
       go Equal w ih =
           let e = cmp-eq p.key q.key w in
-          let f : some p.value ≡ some q.value = sym (find_first p A) ∙ (h p.key ∙ rw e (find_first q B)) in
+          let f : some p.value ≡ some q.value = sym (find_first p A) ∙ (h p.key ∙ subst (λ (z : Key). find z (q ∷ B) ≡ some q.value) (sym e) (find_first q B)) in
           let v : p.value ≡ q.value = cc in
           ap₂ {C = List (PairOf Val)} ◌∷◌ (λ i. record { key = e i; value = v i }) (ih (rest e))
 
@@ -97,12 +97,14 @@ module _ {Val : Type 0} where
   in-over : (j : Key) (x : PairOf Val) (L : List (PairOf Val)) → Over j L → In x L → cmp j x.key ≡ Less
   in-over j x (p ∷ L) a (inl e) = ap (λ (y : PairOf Val). cmp j y.key) e ∙ a.0
   in-over j x (p ∷ L) a (inr m) = in-over j x L a.1 m
+  in-over j x [] a x3 = elim x3 [ ]
 
   pub in-find : (x : PairOf Val) (L : List (PairOf Val)) → Rising L → In x L → find x.key L ≡ some x.value
   in-find x (p ∷ L) a (inl e) = ap (λ (y : PairOf Val). find y.key (p ∷ L)) e ∙ (find_first p L ∙ sym (ap (λ (y : PairOf Val). some y.value) e))
   in-find x (p ∷ L) a (inr m) =
       let l = lt-gt p.key x.key (in-over p.key x L a.0 m) in
       find-later x.key p L (λ z. gt≢eq l z) ∙ in-find x L a.1 m
+  in-find x [] a x3 = elim x3 [ ]
 
   pub find-in : (k : Key) (v : Val) (L : List (PairOf Val)) → find k L ≡ some v → In (record { key = k; value = v }) L
   unfolding find

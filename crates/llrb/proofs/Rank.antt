@@ -3,7 +3,7 @@
 use mathlib.Core.Path.{◌≡◌, refl, sym, ap, subst, ◌∙◌}
 use mathlib.Core.Bool.{Bool, true, false, cond}
 use mathlib.Core.List.{List, [], ◌∷◌, ◌++◌}
-use mathlib.Core.Option.{Option, none, some}
+use mathlib.Core.Option.{some}
 use Prim.Native.Nat.{ℕ, zero, suc, ◌+◌, ◌-◌, ◌≤◌, ◌<◌}
 use native.Mathlib.Omega.{arith}
 use lib.Dec.{ltb, eqb}
@@ -16,7 +16,7 @@ use Rattle.key_order.proofs.Laws.{cmp-refl, cmp-eq, cmp-trans, gt-lt, lt-gt}
 use Rattle.llrb.specs.Tree.{EntryOf, RbTree, nil, node, entries, size}
 use Rattle.llrb.specs.Sorted.{Above, Below, Sorted}
 use Rattle.llrb.specs.Rank.{nth, rank, first_from, nth_entry, rank_in}
-use Rattle.llrb.proofs.Lists.{arms, above-trans, sorted-left, sorted-right, sorted-below}
+use Rattle.llrb.proofs.Lists.{above-trans, sorted-left, sorted-right, sorted-below}
 
 module _ {Val : Type 0} where
   -- ---- the k-th
