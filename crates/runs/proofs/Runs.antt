@@ -76,15 +76,19 @@ copy-next s a b n i p q =
     let more : part b (i + 1) s ≡ part b i s ++ (get_or s (b + i) 0 ∷ []) = rw add-one (take-suc (drop b s) i 0 long ∙ ap (λ (v : ℕ). part b i s ++ (v ∷ [])) (get_or-drop b s i 0)) in
     ap (set (sets s a (part b i s)) (a + i)) there ∙ next s a (part b i s) i (get_or s (b + i) 0) l ∙ ap (sets s a) (sym more)
 
+-- what a copy that fills a lent part leaves of the whole
+filled : (s d ys : List ℕ) (a : ℕ) → a + length d ≤ length s → ys ≡ d → put_mid a ((a + length d) - a) s ys ≡ sets s a d
+filled s d ys a p y =
+    let o : post_of a ((a + length d) - a) s ≡ drop (a + length d) s = Post-is a (a + length d) s (omega arith) in
+    rw (y, o) (sym (append_assoc (take a s) d (drop (a + length d) s))) ∙ sym (sets-eq d s a p)
+
 -- what a copy into a lent part leaves of the whole
 copied : (s d ys : List ℕ) (a : ℕ) → a + length d ≤ length s → ys ≡ take (length d) d ++ drop (length d) (mid_of a ((a + length d) - a) s)
     → put_mid a ((a + length d) - a) s ys ≡ sets s a d
 copied s d ys a p c =
     let m : length (mid_of a ((a + length d) - a) s) ≡ (a + length d) - a = mid_len a (a + length d) s p in
     let n : drop (length d) (mid_of a ((a + length d) - a) s) ≡ [] = drop_of_length-le (mid_of a ((a + length d) - a) s) {i = length d} (omega arith) in
-    let y : ys ≡ d = c ∙ rw (n, take-length d) (append-nil d) in
-    let o : post_of a ((a + length d) - a) s ≡ drop (a + length d) s = Post-is a (a + length d) s (omega arith) in
-    rw (y, o) (sym (append_assoc (take a s) d (drop (a + length d) s))) ∙ sym (sets-eq d s a p)
+    filled s d ys a p (c ∙ rw (n, take-length d) (append-nil d))
 
 -- a string and then zeros
 pub padded-set : (s t u x : List ℕ) (a n : ℕ) → t ≡ sets s a x → u ≡ sets t (a + length x) (zeros (n - length x)) → u ≡ sets s a (padded n x)
@@ -98,3 +102,9 @@ copied-into s d ys a n p c = copied s d ys a (omega arith) c
 pub copied-32 : (s d ys : List ℕ) (a : ℕ) → a + 32 ≤ length s → length d ≡ 32 → ys ≡ take (length d) d ++ drop (length d) (mid_of a ((a + 32) - a) s)
     → put_mid a ((a + 32) - a) s ys ≡ sets s a d
 copied-32 s d ys a p e c = subst (λ (n : ℕ). ys ≡ take (length d) d ++ drop (length d) (mid_of a ((a + n) - a) s) → put_mid a ((a + n) - a) s ys ≡ sets s a d) e (copied s d ys a (omega arith)) c
+
+pub filled-into : (s d ys : List ℕ) (a n : ℕ) → (a + n ≤ length s) × (length d ≤ n) → ys ≡ d → put_mid a ((a + length d) - a) s ys ≡ sets s a d
+filled-into s d ys a n p y = filled s d ys a (omega arith) y
+
+pub filled-32 : (s d ys : List ℕ) (a : ℕ) → a + 32 ≤ length s → length d ≡ 32 → ys ≡ d → put_mid a ((a + 32) - a) s ys ≡ sets s a d
+filled-32 s d ys a p e y = subst (λ (n : ℕ). put_mid a ((a + n) - a) s ys ≡ sets s a d) e (filled s d ys a (omega arith) y)

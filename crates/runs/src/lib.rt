@@ -84,7 +84,7 @@ pub fn put_padded(s: &mut [u8], a: usize, n: usize, x: &[u8])
     ensures { s.new ≡ sets s.old a (padded n x.now) }
 {
     let e = a + x.len();
-    bytes::copy(x, &mut s[a..e]);
+    s[a..e].copy_from_slice(x);
     wipe(s, e, n - x.len());
 }
 

@@ -11,7 +11,7 @@ use Rattle.slots.specs.declared.Header.{Header}
 use Rattle.slots.specs.Layout.{HasSlot, Room, TheHeader, HeadOf, KeyOf, ValueOf, DigestOf, room, header_widths, header_values, header_from, header, HeaderFits, Slot, head_widths, head_values, slot_from, slot, SlotFits, count_of, digest_of, mark_of}
 use Rattle.slots.specs.Setters.{put_room, set_header, set_slot_as, set_digest}
 use Rattle.runs.proofs.Recut.{recut-fit, recut-back, fit_length, bytes_fit, fit-bytes, flag-bit, bit-flag, bit-lt}
-use Rattle.slots.proofs.Rooms.{Within, Other, room-length, bytes-room, length-put_room, bytes-put_room, room-same, room-other, room-id}
+use Rattle.slots.proofs.Rooms.{Within, Other, room-length, length-put_room, bytes-put_room, room-same, room-other, room-id}
 
 -- ---- what is read fits
 

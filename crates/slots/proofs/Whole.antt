@@ -2,14 +2,14 @@
 use mathlib.Core.Path.{◌≡◌, refl, sym, ap, subst, ◌∙◌}
 use mathlib.Core.Logic.{◌⊎◌, ⊎_elim}
 use mathlib.Core.List.{List}
-use Prim.Native.Nat.{ℕ, zero, suc, ◌+◌, ◌≤◌, ◌<◌}
+use Prim.Native.Nat.{ℕ, zero, suc, ◌≤◌, ◌<◌}
 use native.Mathlib.Nat.{eq-or-lt_of_le}
 use native.Mathlib.Omega.{arith}
 use lib.ListN.{length}
 use Rattle.runs.specs.Bits.{Bytes}
 use Rattle.slots.specs.declared.Header.{Header}
 use Rattle.slots.specs.Limits.{store_length}
-use Rattle.slots.specs.Layout.{HasSlot, Room, TheHeader, HeadOf, KeyOf, ValueOf, DigestOf, room, header, HeaderFits, Slot, slot, SlotFits, Mark, count_of, digest_of, mark_of}
+use Rattle.slots.specs.Layout.{HasSlot, Room, TheHeader, HeadOf, KeyOf, ValueOf, DigestOf, room, header, HeaderFits, Slot, slot, SlotFits, Mark, digest_of, mark_of}
 use Rattle.runs.specs.Runs.{zeros}
 use Rattle.slots.specs.Setters.{set_header, set_slot_as, set_digest, with_slots, bytes_of}
 use Rattle.slots.proofs.Rooms.{Within, bytes-room, same-rooms}

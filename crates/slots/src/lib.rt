@@ -259,7 +259,7 @@ pub fn value_part(s: &[u8], i: usize, n: usize) -> &[u8]
 
 pub fn key(s: &[u8], i: usize) -> &[u8]
     requires has_slot { HasSlot (length s.now) i }
-    requires i_bound { (slot s.now i).key_length ≤ max_key }
+    requires length_bound { (slot s.now i).key_length ≤ max_key }
     ensures { result.now ≡ key_of (slot s.now i) }
 {
     let n = head_of(s, i).key_length;
@@ -268,7 +268,7 @@ pub fn key(s: &[u8], i: usize) -> &[u8]
 
 pub fn value(s: &[u8], i: usize) -> &[u8]
     requires has_slot { HasSlot (length s.now) i }
-    requires i_bound { (slot s.now i).value_length ≤ max_value }
+    requires length_bound { (slot s.now i).value_length ≤ max_value }
     ensures { result.now ≡ value_of (slot s.now i) }
 {
     let n = head_of(s, i).value_length;
@@ -290,13 +290,13 @@ pub fn set_digest(s: &mut [u8], i: usize, d: &[u8; 32])
 {
     let b = digest_at(s.len(), i);
     let e = b + 32;
-    bytes::copy(d, &mut s[b..e]);
+    s[b..e].copy_from_slice(d);
 }
 
 // A new entry in slot `i`: red, with no children; its mark stays.
 pub fn put_entry(s: &mut [u8], i: usize, key: &[u8], value: &[u8])
     requires has_slot { HasSlot (length s.old) i }
-    requires key_len_bound { (length key.now ≤ max_key) × (length value.now ≤ max_value) }
+    requires length_bounds { (length key.now ≤ max_key) × (length value.now ≤ max_value) }
     ensures { s.new ≡ set_slot s.old i (node_slot true key.now value.now 0 0) }
 {
     let h = head_of(s, i);
@@ -334,8 +334,8 @@ pub fn set_value(s: &mut [u8], i: usize, value: &[u8])
 // The key and the value of slot `j`, in slot `i` too.
 pub fn move_entry(s: &mut [u8], i: usize, j: usize)
     requires has_slot { HasSlot (length s.old) i }
-    requires has_slot_2 { HasSlot (length s.old) j }
-    requires fact { i ≡ j → ⊥ }
+    requires has_other { HasSlot (length s.old) j }
+    requires apart { i ≡ j → ⊥ }
     ensures { s.new ≡ move_entry s.old i j }
 {
     let g = head_of(s, j);
