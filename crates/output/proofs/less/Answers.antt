@@ -1,5 +1,4 @@
 use borrow.Author.Tests.{le-leb, lt-leb}
-use borrow.Author.Rules.{rules}
 use Rattle.output.proofs.less.Goals as goal
 
 pub returns-then-n-m : goal.returns-then-n-m

@@ -1,8 +1,8 @@
-use Prim.Native.Nat.{◌≤◌, ◌-◌, ◌+◌}
+use Prim.Native.Nat.{◌+◌}
 use mathlib.Core.Path.{◌≡◌, refl, ap, ◌∙◌}
 use native.Mathlib.Omega.{arith}
-use lib.ListN.{length, take, length-set}
-use lib.Seq.{sets, take-length}
+use lib.ListN.{length, length-set}
+use lib.Seq.{take-length}
 use borrow.Author.Rules.{rules}
 use Rattle.output.proofs.Putting.{sets-next}
 use Rattle.output.proofs.put_bytes.Goals as goal

@@ -1,6 +1,5 @@
 use native.Mathlib.Omega.{arith}
 use Rattle.output.proofs.Putting.{puts-piece, piece-length}
-use borrow.Author.Rules.{rules}
 use Rattle.output.proofs.put_piece.Goals as goal
 
 pub put_head-x-requires : goal.put_head-x-requires
@@ -9,7 +8,7 @@ put_head-x-requires c =
 
 pub put_bytes-requires : goal.put_bytes-requires
 put_bytes-requires c =
-    omega (arith, piece-length c.args.kind c.args.src.now, c.put_head-x.ensures.place, c.put_head-x.auto.0)
+    omega (arith, piece-length c.args.kind c.args.src.now, c.put_head-x.ensures.place, c.put_head-x.auto.out)
 
 pub returns : goal.returns
 returns c =
