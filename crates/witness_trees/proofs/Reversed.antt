@@ -1,6 +1,6 @@
 -- Request Q-7: a range with first above last. Its bounds are crossed exactly when two keys of the map lie from last to first (`four-says`, `says_four`);
 -- where they are not, key_range and value_range are `shown` at `reversed_rule`, and label the bounds that exist and nothing else.
-use mathlib.Core.Path.{◌≡◌, refl, sym, subst, ◌∙◌}
+use mathlib.Core.Path.{◌≡◌, refl, sym, ◌∙◌}
 use mathlib.Core.Logic.{◌⊎◌, inl, inr}
 use mathlib.Core.Bool.{Bool, true, false, not, cond, ◌&&◌, ◌||◌, true≢false}
 use mathlib.Core.List.{List, [], ◌∷◌}
@@ -8,15 +8,15 @@ use mathlib.Core.Option.{Option, none, some}
 use Rattle.key_order.specs.declared.Ordering.{Ordering}
 use Rattle.key_order.specs.declared.Ordering.TheVariants.{Less, Equal, Greater}
 use Rattle.key_order.specs.Order.{Key, cmp, pick}
-use Rattle.key_order.proofs.Laws.{cmp-refl, cmp-eq, cmp-trans, gt-lt, lt-gt, lt≢eq, lt≢gt}
+use Rattle.key_order.proofs.Laws.{cmp-refl, cmp-eq, cmp-trans, gt-lt, lt-gt, lt≢eq}
 use Rattle.hash_tree.specs.HashTree.{Empty}
 use Rattle.llrb.specs.Tree.{Entry, Tree, nil, node, entries}
 use Rattle.llrb.specs.Map.{pairs}
 use Rattle.llrb.specs.Sorted.{Sorted}
-use Rattle.witness_trees.specs.Shown.{What, Hide, Label, Show, shown, three_way_fork}
+use Rattle.witness_trees.specs.Shown.{What, Hide, Label, shown, three_way_fork}
 use Rattle.witness_trees.specs.Reading.{labels, says}
 use Rattle.witness_trees.specs.Witness.{Form, keys_only, values, seen, KeyBound, Exact, Neighbor, at, lower_bound, upper_bound, last_arm, full_witness_tree, witness_range_above, witness_range_below, witness_range_between, range_witness, key_range, value_range}
-use Rattle.witness_trees.specs.Sides.{Side, Beyond, Edge, Exactly, Inside, meet}
+use Rattle.witness_trees.specs.Sides.{Beyond, Edge, Exactly, Inside, meet}
 use Rattle.witness_trees.specs.Rules.{In, here, there, Lt, Le, IsLow, IsHigh, InOrder, crossed, upto, below, none_of, next_below, next_above, keys_of, same, an_end, wanted_reversed, reversed_rule, Witness, nothing}
 use Rattle.witness_trees.specs.Words.{Has, it, more, WantedReversed, Two}
 use Rattle.witness_trees.proofs.Lists.{lt_not, lt-irr, lt-le}
@@ -177,6 +177,7 @@ module _ (first last : Key) (t : Tree) (s : Sorted (entries t)) where
 has_in : {k : Key} (L : List Entry) → Has k (keys_of L) → (e : Entry) × In e L × (e.key ≡ k)
 has_in (e ∷ L) it = (e, here, refl)
 has_in (e ∷ L) (more h) = let r = has_in L h in (r.0, there r.1, r.2)
+has_in {k = k} [] x' = elim x' [ ]
 
 in-has : {e : Entry} {L : List Entry} → In e L → Has e.key (keys_of L)
 in-has here = it

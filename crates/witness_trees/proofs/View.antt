@@ -1,13 +1,13 @@
 -- Request Q-10: each witness is worked out from its view alone.
 use mathlib.Core.Path.{◌≡◌, refl, sym, ◌∙◌}
-use mathlib.Core.Bool.{Bool, true, false, cond, ◌&&◌}
-use mathlib.Core.List.{◌∷◌, ◌++◌}
+use mathlib.Core.Bool.{Bool, true, false, cond}
+use mathlib.Core.List.{◌∷◌}
 use Rattle.key_order.specs.Order.{Key}
 use Rattle.hash_tree.specs.HashTree.{Digest}
 use Rattle.llrb.specs.Tree.{Entry, Tree, nil, node, entries}
 use Rattle.llrb.specs.Sorted.{Sorted}
 use Rattle.llrb.specs.Digests.{subtree_digest}
-use Rattle.witness_trees.specs.Shown.{What, Hide, Label, Show, is_hide, item, quiet, shown, three_way_fork}
+use Rattle.witness_trees.specs.Shown.{What, Hide, Label, Show, is_hide, item, quiet, shown}
 use Rattle.witness_trees.specs.Witness.{keys_only, values, as_hash_tree, keys, key_range, value_range, keys_with_prefix, witness}
 use Rattle.witness_trees.specs.Rules.{Le, keys_of, within, wanted, range_rule, prefix_rule}
 use Rattle.witness_trees.specs.View.{Seen, view, view_of, seen_of, seen_by, is_other, unlabelled, item_of, from_view}
