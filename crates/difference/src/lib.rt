@@ -157,7 +157,7 @@ fn put_key(s: &[u8], i: usize, kind: usize, out: &mut [u8], at: usize) -> usize
 
 fn put_line(old: &[u8], new: &[u8], change: Change, slot: usize, out: &mut [u8], at: usize) -> usize
     requires entry_at { EntryAt (side_of change old.now new.now) slot }
-    requires slot_in_bounds { at + length (line_bytes (line_in old.now new.now change slot)) ≤ length out.old }
+    requires room { at + length (line_bytes (line_in old.now new.now change slot)) ≤ length out.old }
     ensures { Puts out.old out.new at result (line_bytes (line_in old.now new.now change slot)) }
 {
     match change {
@@ -196,7 +196,7 @@ fn fit(old: &[u8], new: &[u8], room: Room) -> Room
 // Writes all lines; there is room for them.
 fn put_lines(old: &[u8], new: &[u8], out: &mut [u8]) -> usize
     requires sound { (Sound old.now) × (Sound new.now) }
-    requires in_bounds { length (lines_bytes (all_lines old.now new.now)) ≤ length out.old }
+    requires room { length (lines_bytes (all_lines old.now new.now)) ≤ length out.old }
     ensures { Puts out.old out.new 0 result (lines_bytes (all_lines old.now new.now)) }
 {
     let mut at = 0;

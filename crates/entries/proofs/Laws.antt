@@ -15,7 +15,7 @@ use Rattle.slots.specs.Layout.{count_in, slot, key_of, value_of, count_of, diges
 use Rattle.llrb.specs.Tree.{Entry, Tree, nil, node, size}
 use Rattle.llrb.specs.Digests.{data_digest, is_nil, node_digest, subtree_digest}
 use Rattle.llrb.proofs.Height.{size-node}
-use Rattle.entries.specs.Digests.{value_digest, data_digest_in, forked, compute_subtree_hash, count_below, linked_count}
+use Rattle.entries.specs.Digests.{value_digest, data_digest_in, compute_subtree_hash, count_below, linked_count}
 
 -- ---- the four cases, in the order of the code
 

@@ -9,7 +9,7 @@ ghost use Rattle.entries.specs.Digests.{Link, LinksIn, value_digest, data_digest
 // How `key` stands to the key in slot `i`.
 pub fn compare_key(s: &[u8], i: usize, key: &[u8]) -> key_order::Ordering
     requires has_slot { HasSlot (length s.now) i }
-    requires i_bound { (slot s.now i).key_length ≤ 48 }
+    requires key_bound { (slot s.now i).key_length ≤ 48 }
     ensures { result ≡ cmp key.now (key_of (slot s.now i)) }
 {
     key_order::order(key, slots::key(s, i))
@@ -18,7 +18,7 @@ pub fn compare_key(s: &[u8], i: usize, key: &[u8]) -> key_order::Ordering
 // The digest of the value: of a Leaf.
 pub fn value_digest(s: &[u8], i: usize) -> [u8; 32]
     requires has_slot { HasSlot (length s.now) i }
-    requires i_bound { (slot s.now i).value_length ≤ 64 }
+    requires value_bound { (slot s.now i).value_length ≤ 64 }
     ensures { result ≡ value_digest s.now i }
 {
     hash_tree::leaf_hash(slots::value(s, i))
@@ -27,8 +27,8 @@ pub fn value_digest(s: &[u8], i: usize) -> [u8; 32]
 // The Rust's `data_hash`: of the key over the value.
 pub fn data_digest(s: &[u8], i: usize) -> [u8; 32]
     requires has_slot { HasSlot (length s.now) i }
-    requires i_bound { (slot s.now i).key_length ≤ 48 }
-    requires i_bound_2 { (slot s.now i).value_length ≤ 64 }
+    requires key_bound { (slot s.now i).key_length ≤ 48 }
+    requires value_bound { (slot s.now i).value_length ≤ 64 }
     ensures { result ≡ data_digest_in s.now i }
 {
     let value = value_digest(s, i);
@@ -37,8 +37,8 @@ pub fn data_digest(s: &[u8], i: usize) -> [u8; 32]
 
 // From the data digest `d` and the stored digests of the slots that two links name; 0 names none.
 pub fn fork_with(s: &[u8], left: usize, right: usize, d: [u8; 32]) -> [u8; 32]
-    requires link { Link s.now left }
-    requires link_2 { Link s.now right }
+    requires left_link { Link s.now left }
+    requires right_link { Link s.now right }
     ensures { result ≡ forked s.now left right d }
 {
     if left == 0 {

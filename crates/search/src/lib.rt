@@ -205,7 +205,7 @@ fn place_of(s: &[u8], f: Found) -> Place
 
 pub fn get_place(s: &[u8], key: &[u8]) -> Place
     requires sound { Sound s.now }
-    requires key_len_bound { length key.now ≤ 48 }
+    requires key_bound { length key.now ≤ 48 }
     ensures { answer_of result ≡ get_answer key.now s.now }
 {
     let root = slots::header_of(s).root;
@@ -224,7 +224,7 @@ pub fn first_place(s: &[u8]) -> Place
 
 pub fn next_place(s: &[u8], key: &[u8]) -> Place
     requires sound { Sound s.now }
-    requires key_len_bound { length key.now ≤ 48 }
+    requires key_bound { length key.now ≤ 48 }
     ensures { answer_of result ≡ next_entry_answer key.now s.now }
 {
     let root = slots::header_of(s).root;

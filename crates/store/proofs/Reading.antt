@@ -164,6 +164,7 @@ noded e (node c x l r) p = at (split e (entries l) (x ∷ entries r) p) (noded e
     at : Among e (entries l) ⊎ Among e (x ∷ entries r) → (Among e (entries l) → Noded e l) → (Among e (entries r) → Noded e r) → Noded e (node c x l r)
     at (inl q) i j = let w = i q in record { colour = w.colour; lower = w.lower; upper = w.upper; sub = on-left w.sub }
     at (inr q) i j = top q j
+noded e nil p = elim p [ ]
 
 head-among : (L : List Entry) (e : Entry) → head_of L ≡ some e → Among e L
 head-among [] e h = absurd (let z : ◌≡◌ {A = ℕ} 0 1 = cc in omega arith)

@@ -1,7 +1,7 @@
 -- Decisions put together from decisions.
 use Rattle.std.specs.Prelude.{◌≡◌, refl, Bool, true, false, ℕ, ◌≤◌, eqb, leb}
 use Rattle.std.proofs.Common.{sym, true≢false, arith, eqb-true, leb-true, leb-false}
-use Rattle.std.proofs.Math.Logic.{Dec·and}
+use mathlib.Core.Logic.Dec.{and}
 use mathlib.Core.List.{List, List-discrete}
 use Rattle.std.proofs.lemmas.Bool.{eqb-false}
 
@@ -11,7 +11,7 @@ told (no n) f g = no (λ q. n (g q))
 
 infixr 3 ◌&◌
 pub ◌&◌ : {P Q : Type 0} → Dec P → Dec Q → Dec (P × Q)
-◌&◌ p q = Dec·and p q
+◌&◌ p q = and p q
 
 pub three : {P Q R : Type 0} → Dec P → Dec Q → Dec R → Dec (P × Q × R)
 three p q r = told (p & q & r) (λ h. (h.0, h.1.0, h.1.1)) (λ h. (h.0, (h.1, h.2)))

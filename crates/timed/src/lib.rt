@@ -45,7 +45,7 @@ fn has_rows(table: &[u8], most: usize, length: usize, rows: usize) -> bool
 
 fn change(op: usize, s: &mut [u8], key: &[u8], value: &[u8])
     requires sound { Sound s.old }
-    requires key_len_bound { (length key.now ≤ 48) × (length value.now ≤ 64) }
+    requires lengths { (length key.now ≤ 48) × (length value.now ≤ 64) }
     ensures { (Sound s.new) × (s.new ≡ changed op key.now value.now s.old) }
 {
     if op == INSERT {
@@ -131,7 +131,7 @@ fn found(place: Place) -> usize
 // What is written goes to the front of the output; get writes nothing, and counts what it finds.
 fn read(op: usize, s: &[u8], first: &[u8], last: &[u8], out: &mut [u8]) -> usize
     requires sound { Sound s.now }
-    requires first_len_bound { (length first.now ≤ 48) × (length last.now ≤ 48) }
+    requires lengths { (length first.now ≤ 48) × (length last.now ≤ 48) }
     ensures { (result ≡ counted op first.now s.now) × (result ≤ 1) × (out.new ≡ output op first.now last.now s.now out.old) }
 {
     if op == GET {

@@ -28,7 +28,7 @@ fn next(cap: usize, x: usize) -> usize
 
 // A fresh store, whatever the bytes were.
 fn lay(s: &mut [u8], cap: usize)
-    requires le_cap { 1 ≤ cap }
+    requires cap_bound { 1 ≤ cap }
     requires sized { Sized (length s.old) cap }
     ensures { s.new ≡ encode (fresh cap) }
 {

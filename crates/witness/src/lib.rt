@@ -51,7 +51,7 @@ fn data_hash(s: &[u8], n: usize) -> [u8; 32]
 // `left_hash_tree`, `right_hash_tree`: Empty, or Pruned to the stored digest.
 fn put_hidden(s: &[u8], n: usize, out: &mut [u8], at: usize) -> usize
     requires hidden_at { HiddenAt s.now n }
-    requires n_in_bounds { at + length (hidden_in s.now n) ≤ length out.old }
+    requires room { at + length (hidden_in s.now n) ≤ length out.old }
     ensures { Puts out.old out.new at result (hidden_in s.now n) }
 {
     if n == 0 {
@@ -69,7 +69,7 @@ fn hidden_len(n: usize) -> usize
 // The entry: `pruned(n.data_hash())`, `n.witness_tree()` or `n.data_tree()`.
 fn put_shown(s: &[u8], n: usize, what: What, out: &mut [u8], at: usize) -> usize
     requires entry_at { EntryAt s.now n }
-    requires what_in_bounds { at + length (shown_in s.now n what) ≤ length out.old }
+    requires room { at + length (shown_in s.now n what) ≤ length out.old }
     ensures { Puts out.old out.new at result (shown_in s.now n what) }
 {
     match what {
@@ -104,7 +104,7 @@ fn shown_len(s: &[u8], n: usize, what: What) -> usize
 fn put_middle(s: &[u8], n: usize, middle: Middle, out: &mut [u8], at: usize) -> usize
     requires entry_at { EntryAt s.now n }
     requires middle_at { MiddleAt s.now n middle }
-    requires middle_in_bounds { at + length (middle_in s.now n middle) ≤ length out.old }
+    requires room { at + length (middle_in s.now n middle) ≤ length out.old }
     ensures { Puts out.old out.new at result (middle_in s.now n middle) }
 {
     match middle {
@@ -213,8 +213,8 @@ fn range_walk(left: Bound, right: Bound) -> Walk
 
 // What the Rust asserts not to be: both bounds exist, and the low one is above the high one.
 fn crossed(s: &[u8], left: Bound, right: Bound) -> bool
-    requires bound_in { BoundIn s.now left }
-    requires bound_in_2 { BoundIn s.now right }
+    requires left_bound { BoundIn s.now left }
+    requires right_bound { BoundIn s.now right }
     ensures { result ≡ crossed_in s.now left right }
 {
     let Bound::At(lo) = left else {
@@ -255,7 +255,7 @@ pub fn keys(s: &[u8], out: &mut [u8]) -> Saved
 
 pub fn key_range(s: &[u8], first: &[u8], last: &[u8], out: &mut [u8]) -> Saved
     requires sound { Sound s.now }
-    requires first_len_bound { (length first.now ≤ 48) × (length last.now ≤ 48) }
+    requires key_bounds { (length first.now ≤ 48) × (length last.now ≤ 48) }
     ensures { answered result out.new ≡ key_range_answer first.now last.now s.now out.old }
 {
     let root = header_of(s).root;
@@ -272,7 +272,7 @@ pub fn key_range(s: &[u8], first: &[u8], last: &[u8], out: &mut [u8]) -> Saved
 
 pub fn value_range(s: &[u8], first: &[u8], last: &[u8], out: &mut [u8]) -> Saved
     requires sound { Sound s.now }
-    requires first_len_bound { (length first.now ≤ 48) × (length last.now ≤ 48) }
+    requires key_bounds { (length first.now ≤ 48) × (length last.now ≤ 48) }
     ensures { answered result out.new ≡ value_range_answer first.now last.now s.now out.old }
 {
     let root = header_of(s).root;
@@ -289,7 +289,7 @@ pub fn value_range(s: &[u8], first: &[u8], last: &[u8], out: &mut [u8]) -> Saved
 
 pub fn keys_with_prefix(s: &[u8], prefix: &[u8], out: &mut [u8]) -> Saved
     requires sound { Sound s.now }
-    requires prefix_len_bound { length prefix.now ≤ 48 }
+    requires prefix_bound { length prefix.now ≤ 48 }
     ensures { answered result out.new ≡ keys_with_prefix_answer prefix.now s.now out.old }
 {
     let root = header_of(s).root;
@@ -301,7 +301,7 @@ pub fn keys_with_prefix(s: &[u8], prefix: &[u8], out: &mut [u8]) -> Saved
 // `nested_witness` with the value's own tree: a present key alone with its value, or else its neighbours.
 pub fn witness(s: &[u8], key: &[u8], out: &mut [u8]) -> Saved
     requires sound { Sound s.now }
-    requires key_len_bound { length key.now ≤ 48 }
+    requires key_bound { length key.now ≤ 48 }
     ensures { answered result out.new ≡ witness_answer key.now s.now out.old }
 {
     let root = header_of(s).root;

@@ -131,7 +131,7 @@ fn full_witness_tree(f: What) -> Arm
 // How the keys of two slots compare.
 fn compare_keys(s: &[u8], i: usize, j: usize) -> Ordering
     requires entry_at { EntryAt s.now i }
-    requires entry_at_2 { EntryAt s.now j }
+    requires other_at { EntryAt s.now j }
     ensures { result ≡ cmp (key_in s.now i) (key_in s.now j) }
 {
     entries::compare_key(s, j, key(s, i))
@@ -139,7 +139,7 @@ fn compare_keys(s: &[u8], i: usize, j: usize) -> Ordering
 
 fn witness_range_above(s: &[u8], n: usize, lo: KeyBound, f: What) -> Arm
     requires entry_at { EntryAt s.now n }
-    requires entry_at_2 { EntryAt s.now (slot_of lo) }
+    requires low_at { EntryAt s.now (slot_of lo) }
     ensures { result ≡ above_arms lo f (cmp (key_in s.now n) (key_in s.now (slot_of lo))) }
 {
     match compare_keys(s, n, slot_of(lo)) {
@@ -163,7 +163,7 @@ fn witness_range_above(s: &[u8], n: usize, lo: KeyBound, f: What) -> Arm
 
 fn witness_range_below(s: &[u8], n: usize, hi: KeyBound, f: What) -> Arm
     requires entry_at { EntryAt s.now n }
-    requires entry_at_2 { EntryAt s.now (slot_of hi) }
+    requires high_at { EntryAt s.now (slot_of hi) }
     ensures { result ≡ below_arms hi f (cmp (key_in s.now n) (key_in s.now (slot_of hi))) }
 {
     match compare_keys(s, n, slot_of(hi)) {
@@ -189,8 +189,8 @@ fn witness_range_below(s: &[u8], n: usize, hi: KeyBound, f: What) -> Arm
 // key below `lo` and above `hi`, is never met (proofs/Never) and is left out.
 fn witness_range_between(s: &[u8], n: usize, lo: KeyBound, hi: KeyBound, f: What) -> Arm
     requires entry_at { EntryAt s.now n }
-    requires entry_at_2 { EntryAt s.now (slot_of lo) }
-    requires entry_at_3 { EntryAt s.now (slot_of hi) }
+    requires low_at { EntryAt s.now (slot_of lo) }
+    requires high_at { EntryAt s.now (slot_of hi) }
     ensures { result ≡ between_arms lo hi f (cmp (key_in s.now (slot_of lo)) (key_in s.now n)) (cmp (key_in s.now n) (key_in s.now (slot_of hi))) }
 {
     let go = Part::Walked(Walk::Between(lo, hi));
@@ -246,7 +246,7 @@ fn witness_range_between(s: &[u8], n: usize, lo: KeyBound, hi: KeyBound, f: What
 // Of the present key that stands in slot `i`.
 fn lookup_and_build_witness(s: &[u8], n: usize, i: usize) -> Arm
     requires entry_at { EntryAt s.now n }
-    requires entry_at_2 { EntryAt s.now i }
+    requires other_at { EntryAt s.now i }
     ensures { result ≡ lookup_arms i (cmp (key_in s.now i) (key_in s.now n)) }
 {
     match compare_keys(s, i, n) {
