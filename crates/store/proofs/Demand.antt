@@ -25,7 +25,7 @@ use Rattle.witness_trees.specs.Witness.{key_range, keys_only}
 use Rattle.witness_trees.specs.Rules.{Le, keys_of, range_rule}
 use Rattle.witness_trees.proofs.Calls.{key-range-is}
 use Rattle.witness_trees.proofs.Laws.{key-range-witness, key-range-leaves}
-use Rattle.store.specs.Numbers.{NotSound, Outcome, refused, done}
+use Rattle.store.specs.Numbers.{NotSound, refused, done}
 use Rattle.store.specs.Model.{Model, head, fresh, inserted, modified, deleted}
 use Rattle.store.specs.Sound.{Lawful, Represents}
 use Rattle.store.specs.Answers.{told, counted, Digested, digested}

@@ -7,7 +7,7 @@ use native.Mathlib.Omega.{arith}
 use lib.Dec.{eqb, lit<}
 use lib.ListN.{length}
 use Rattle.slots.specs.Bits.{Bytes}
-use Rattle.slots.specs.Layout.{current, count_in, HeaderFits, SlotFits, slot, free_slot}
+use Rattle.slots.specs.Layout.{current, count_in, HeaderFits, SlotFits, free_slot}
 use Rattle.slots.proofs.Writing.{length-zeros, node-fits, free-fits}
 use Rattle.slots.proofs.Whole.{MarkFits, length-bytes_of, header-bytes_of, slot-bytes_of, mark-bytes_of, is-bytes_of}
 use Rattle.hash_tree.proofs.DigestLaws.{empty_hash-length, fork_hash-length, labeled_hash-length}

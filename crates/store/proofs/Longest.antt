@@ -1,12 +1,12 @@
 -- The longest witness. Of n entries with n at least 1 what is shown has at most 118 n - 2 bytes: 116 for an entry, 2 for a Fork.
-use mathlib.Core.Path.{◌≡◌, refl, sym, ap, subst, ◌∙◌}
-use mathlib.Core.Bool.{Bool, true, false, ◌&&◌, true≢false}
-use mathlib.Core.List.{List, [], ◌∷◌, ◌++◌}
+use mathlib.Core.Path.{◌≡◌, refl, sym, ◌∙◌}
+use mathlib.Core.Bool.{Bool, true, false, true≢false}
+use mathlib.Core.List.{List, ◌∷◌, ◌++◌}
 use Prim.Native.Nat.{ℕ, suc, ◌+◌, ◌*◌, ◌≤◌}
 use native.Mathlib.Omega.{arith}
 use lib.ListN.{length, length-append}
 use borrow.Author.Tests.{le-ltb}
-use Rattle.key_order.specs.Order.{Key, cmp, pick}
+use Rattle.key_order.specs.Order.{Key, cmp}
 use Rattle.key_order.specs.declared.Ordering.TheVariants.{Less}
 use Rattle.key_order.proofs.Laws.{lt-gt}
 use Rattle.hash_tree.specs.HashTree.{HashTree, digest, fork_hash, leaf_hash}
@@ -25,8 +25,7 @@ use Rattle.witness_trees.proofs.Calls.{as-hash-tree-is, keys-is, witness-is, key
 use Rattle.witness_trees.proofs.Reversed.{not-crossed, crossed-above}
 use Rattle.store.specs.Numbers.{Outcome, done}
 use Rattle.store.specs.Model.{Model}
-use Rattle.store.specs.Sound.{Short, Lawful, Represents, Sound}
-use Rattle.store.specs.Decode.{decode}
+use Rattle.store.specs.Sound.{Short, Lawful, Represents}
 use Rattle.store.specs.Calls.{reversed, crossed_range, of_key, of_range, witnessed, as_hash_tree_answer, keys_answer, witness_answer, keys_with_prefix_answer, key_range_answer, value_range_answer}
 use Rattle.store.specs.Longest.{longest_witness, RoomForAny}
 use Rattle.store.proofs.Decoding.{live-and-free, decoded}

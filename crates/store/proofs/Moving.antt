@@ -1,15 +1,13 @@
 -- Moves between editions: a move answers 0 exactly for a store that is sound in the edition it leaves, changes nothing but the edition and counts,
 -- and there and back gives the same bytes.
-use mathlib.Core.Path.{◌≡◌, refl, sym, ap, subst, ◌∙◌}
-use mathlib.Core.Bool.{true, false, cond}
+use mathlib.Core.Path.{◌≡◌, refl, sym, ap, ◌∙◌}
 use mathlib.Core.List.{List}
 use mathlib.Core.Option.{Option, none, some}
-use Prim.Native.Nat.{ℕ, ◌≤◌, ◌<◌}
+use Prim.Native.Nat.{ℕ, ◌<◌}
 use native.Mathlib.Omega.{arith}
-use lib.ListN.{length}
 use Rattle.slots.specs.Bits.{Bytes}
 use Rattle.slots.specs.declared.Header.{Header}
-use Rattle.slots.specs.Layout.{header, slot, Mark, digest_of}
+use Rattle.slots.specs.Layout.{Mark}
 use Rattle.llrb.specs.Tree.{Tree}
 use Rattle.llrb.specs.Path.{subtree_at}
 use Rattle.store.specs.Numbers.{NotSound, refused, done}
@@ -17,7 +15,7 @@ use Rattle.store.specs.Model.{Model}
 use Rattle.store.specs.Sound.{RepresentsIn, SoundIn}
 use Rattle.store.specs.Encode.{top_mark, encode_in}
 use Rattle.store.specs.Decode.{decode}
-use Rattle.store.specs.Decide.{represents?, on_sound_in}
+use Rattle.store.specs.Decide.{represents?}
 use Rattle.store.specs.Moves.{move_answer, changed_in, with_edition, MovedOnly}
 use Rattle.store.proofs.Decoding.{on-sound, on-unsound, sound-decodes}
 use Rattle.store.proofs.Seats.{laid_shows}

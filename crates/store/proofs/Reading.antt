@@ -17,7 +17,7 @@ use Rattle.slots.specs.declared.Header.{Header}
 use Rattle.slots.specs.Layout.{HasSlot, KeyOf, ValueOf, header, Slot, slot, key_of, value_of, key_at, value_at, part, room, place, free_slot}
 use Rattle.slots.proofs.Rooms.{fits}
 use Rattle.slots.proofs.Writing.{node-key, node-value}
-use Rattle.llrb.specs.Tree.{Entry, Tree, node, entries, size, get}
+use Rattle.llrb.specs.Tree.{Entry, Tree, nil, node, entries, size, get}
 use Rattle.llrb.specs.Path.{Sub, whole, on-left, on-right}
 use Rattle.llrb.specs.Iterate.{head_of, first_above}
 use Rattle.llrb.specs.Map.{Pair, pair, pairs}

@@ -16,7 +16,7 @@ use Rattle.llrb.specs.Path.{Sub, whole, on-left, on-right, subtree_at}
 use Rattle.store.specs.Counts.{is, occurs}
 use Rattle.store.specs.Deciding.{le?}
 use Rattle.store.specs.Counting.{is-self, is-other, numbers-in, numbers-low, numbers-high, numbers-most}
-use Rattle.store.specs.Model.{Model, slots_of, head}
+use Rattle.store.specs.Model.{Model, slots_of}
 use Rattle.store.specs.Sound.{header_in, Nodes, Marks, Digests, Counts, Chain, LaidIn, Lawful}
 use Rattle.store.specs.Encode.{in_chain, slot_at, mark_at}
 use Rattle.store.proofs.Trees.{slots-node}

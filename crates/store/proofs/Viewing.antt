@@ -11,7 +11,7 @@ use Rattle.key_order.specs.Order.{Key, cmp}
 use Rattle.hash_tree.specs.HashTree.{Digest, HashTree}
 use Rattle.hash_tree.specs.Written.{write}
 use Rattle.slots.specs.Layout.{current, digest_of}
-use Rattle.llrb.specs.Tree.{Entry, Tree, nil, node, balance, get, insert_go, insert, entries}
+use Rattle.llrb.specs.Tree.{Entry, Tree, nil, node, balance, get, insert_go, insert}
 use Rattle.llrb.specs.Digests.{data_digest, subtree_digest}
 use Rattle.witness_trees.specs.Witness.{value_range}
 use Rattle.witness_trees.specs.Rules.{Le}
@@ -20,7 +20,6 @@ use Rattle.witness_trees.proofs.View.{value-range-view}
 use Rattle.store.specs.Numbers.{refused, done, number_of, NotSound, LongKey, NoRoom}
 use Rattle.store.specs.Model.{Model, root, fresh, inserted}
 use Rattle.store.specs.Sound.{Digests, Represents, Sound}
-use Rattle.store.specs.Decode.{decode}
 use Rattle.store.specs.Answers.{written, fitting}
 use Rattle.store.specs.Calls.{refuse, long_key, of_range, insert_in, witnessed, value_range_answer}
 use Rattle.store.specs.History.{Edit, Insert, store_after, model_after}

@@ -11,7 +11,7 @@ use Rattle.llrb.specs.Tree.{Entry, Tree, nil, node, is_red, entries}
 use Rattle.llrb.specs.Sorted.{Above, Sorted}
 use Rattle.llrb.specs.Shape.{RedsApart, LeansLeft, Blacks, SameBlacks}
 use Rattle.store.specs.Counts.{numbers_to}
-use Rattle.store.specs.Model.{Model, named, root}
+use Rattle.store.specs.Model.{Model, named}
 use Rattle.store.specs.Sound.{header_in, Nodes, Marks, Chain, LaidIn, Short, Lawful, RepresentsIn}
 use Rattle.store.specs.Decode.{decode}
 use Rattle.store.specs.Deciding.{told, ◌&◌, three, nat?, le?, bytes?, bool?}

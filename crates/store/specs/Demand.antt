@@ -21,7 +21,7 @@ use Rattle.store.specs.Decode.{decode}
 use Rattle.store.specs.Answers.{Found, Changed, Written}
 use Rattle.store.specs.Calls.{is_none, create_answer, is_empty_answer, count_answer, root_hash_answer, get_answer, first_entry_answer, next_entry_answer, insert_answer, modify_answer, delete_answer, as_hash_tree_answer, keys_answer, witness_answer, keys_with_prefix_answer, key_range_answer, value_range_answer}
 use Rattle.store.specs.Replay.{Replayed, replay_answer}
-use Rattle.store.specs.History.{Edit, accepted, last_value, map_after, first_pair, pair_above, model_from, new_keys, deletes}
+use Rattle.store.specs.History.{Edit, last_value, map_after, first_pair, pair_above, model_from, new_keys, deletes}
 use Rattle.store.specs.Difference.{difference_answer}
 
 -- ---- demand 1: any number but 0 leaves all lent bytes as found; other numbers are 0, a yes or no is no, digests are 32 zero bytes
