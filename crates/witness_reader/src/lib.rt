@@ -7,7 +7,7 @@ ghost use Rattle.hash_tree.specs.Record.{record_of, place_after};
 
 use hash_tree::Record;
 
-#[derive(Drop)]
+#[derive(Clone, Copy)]
 pub struct Witness<'a> {
     pub src: &'a [u8],
     pub at: usize,
