@@ -47,28 +47,28 @@ pub const MAX_MESSAGE: usize = 65_536;
 // ---- answers: with any number but 0 the rest is no, 0 or zero bytes
 
 // is_empty
-#[derive(Drop)]
+#[derive(Clone, Copy)]
 pub struct Told {
     pub number: usize,
     pub yes: bool,
 }
 
 // count
-#[derive(Drop)]
+#[derive(Clone, Copy)]
 pub struct Counted {
     pub number: usize,
     pub count: usize,
 }
 
 // root_hash, rebuild, hash
-#[derive(Drop)]
+#[derive(Clone, Copy)]
 pub struct Digested {
     pub number: usize,
     pub digest: [u8; 32],
 }
 
 // get and iteration: where in the store the key and the value lie
-#[derive(Drop)]
+#[derive(Clone, Copy)]
 pub struct Found {
     pub number: usize,
     pub key_at: usize,
@@ -78,7 +78,7 @@ pub struct Found {
 }
 
 // What fills the front of an output, with how many bytes.
-#[derive(Drop)]
+#[derive(Clone, Copy)]
 pub struct Saved {
     pub number: usize,
     pub size: usize,

@@ -19,7 +19,7 @@ use search::{Found, first_entry, next_entry};
 use slots::{header_of, key, value};
 
 // Only in the old store, only in the new one, or in both with another value.
-#[derive(Drop)]
+#[derive(Clone, Copy)]
 pub enum Change {
     Gone,
     New,
@@ -27,7 +27,7 @@ pub enum Change {
 }
 
 // What the walk comes to: a line, with the slot that has its key and the cursors after it; one key with one value; or the end.
-#[derive(Drop)]
+#[derive(Clone, Copy)]
 pub enum Step {
     Line {
         change: Change,

@@ -18,7 +18,7 @@ use Rattle.slots.proofs.Writing.{node-key, node-value}
 use Rattle.llrb.proofs.Height.{size-node}
 use Rattle.judge.specs.declared.Trail.{Trail}
 use Rattle.judge.specs.declared.Trail.TheVariants.{Got, Bad}
-use Rattle.judge.specs.Rising.{Bound, none, over, Past, Rising, last_of}
+use Rattle.judge.specs.Rising.{Bound, over, Past, Rising, last_of}
 use Rattle.judge.specs.Steps.{NodeOk, Within, Good, bound_of, Met, Seen, Fits, WalkSays, blacks_from, joined}
 use Rattle.judge.proofs.Order.{rising-join, rising-split, last-join}
 use Rattle.judge.proofs.Unique.{tree-same}

@@ -20,7 +20,7 @@ use slots::{EDITION, Head, Header};
 pub const MAX_HEIGHT: usize = 20;
 
 // What a walk over a subtree finds: the last slot in order, how many entries are left, and how many black nodes a path has.
-#[derive(Drop)]
+#[derive(Clone, Copy)]
 pub enum Trail {
     Got {
         last: usize,

@@ -6,7 +6,7 @@ ghost use Rattle.key_order.specs.Order.{cmp, compared, is_same, is_below};
 ghost use Rattle.key_order.specs.Words.{word};
 
 // How one key stands to another: the Rust's `std::cmp::Ordering`.
-#[derive(Drop)]
+#[derive(Clone, Copy)]
 pub enum Ordering {
     Less,
     Equal,
@@ -14,7 +14,7 @@ pub enum Ordering {
 }
 
 // How two keys compare, and how many of their leading bytes agree.
-#[derive(Drop)]
+#[derive(Clone, Copy)]
 pub struct Compared {
     pub order: Ordering,
     pub agree: usize,

@@ -6,7 +6,7 @@ ghost use Rattle.hash_tree.specs.Written.{head, piece};
 ghost use Rattle.output.specs.Putting.{Puts, room_after};
 
 // The room that is left for writing.
-#[derive(Drop)]
+#[derive(Clone, Copy)]
 pub enum Room {
     Left(usize),
     Short,

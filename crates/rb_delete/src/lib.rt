@@ -8,7 +8,7 @@ ghost use Rattle.rb_nodes.specs.Heap.{Held, Full, Marked, HasTree, HasFull, Turn
 ghost use Rattle.rb_delete.specs.Deletes.{CanMin, DoesMin, CanNext, DoesNext, CanDelete, DoesDelete, CanCut, DoesCut};
 
 // The top after a deletion, and the slot that left the tree.
-#[derive(Drop)]
+#[derive(Clone, Copy)]
 pub struct Cut {
     pub top: usize,
     pub freed: usize,

@@ -22,7 +22,7 @@ pub const MODIFY: usize = 1;
 pub const DELETE: usize = 2;
 
 // The six faults of a record.
-#[derive(Drop)]
+#[derive(Clone, Copy)]
 pub enum Fault {
     Operation,
     LongKey,
@@ -33,7 +33,7 @@ pub enum Fault {
 }
 
 // The record at a place: its key starts two bytes on, its value right after the key; or a fault that it has.
-#[derive(Drop)]
+#[derive(Clone, Copy)]
 pub enum LogRecord {
     Whole {
         operation: usize,
@@ -131,7 +131,7 @@ pub fn is_log(log: &[u8]) -> bool
 }
 
 // What a record's call came to.
-#[derive(Drop)]
+#[derive(Clone, Copy)]
 pub enum Edited {
     Done,
     Full,
@@ -162,7 +162,7 @@ fn edit_stale(s: &mut [u8], operation: usize, key: &[u8], value: &[u8]) -> Edite
 }
 
 // The number; how many records found no room, and how many no entry of their key.
-#[derive(Drop)]
+#[derive(Clone, Copy)]
 pub struct Replayed {
     pub number: usize,
     pub full: usize,

@@ -13,28 +13,28 @@ ghost use Rattle.search.specs.Search.{HasTree, Lies, found_slot, bound_slot, Fou
 use key_order::{Ordering, compare};
 
 // An entry by its slot, or nothing.
-#[derive(Drop)]
+#[derive(Clone, Copy)]
 pub enum Found {
     At(usize),
     Nothing,
 }
 
 // A bound of a range, by the slot of its entry.
-#[derive(Drop)]
+#[derive(Clone, Copy)]
 pub enum KeyBound {
     Exact(usize),
     Neighbor(usize),
 }
 
 // In place of the Rust's `Option<KeyBound>`.
-#[derive(Drop)]
+#[derive(Clone, Copy)]
 pub enum Bound {
     At(KeyBound),
     Nothing,
 }
 
 // Where the key and the value of an entry lie in the store, or nothing.
-#[derive(Drop)]
+#[derive(Clone, Copy)]
 pub enum Place {
     At {
         key_at: usize,

@@ -18,7 +18,7 @@ const HEADER_LENGTH: usize = 8;
 const SLOT_LENGTH: usize = 150;
 
 // The header's fields.
-#[derive(Drop)]
+#[derive(Clone, Copy)]
 pub struct Header {
     pub edition: usize,
     pub capacity: usize,
@@ -29,7 +29,7 @@ pub struct Header {
 }
 
 // The head of a slot.
-#[derive(Drop)]
+#[derive(Clone, Copy)]
 pub struct Head {
     pub live: bool,
     pub red: bool,

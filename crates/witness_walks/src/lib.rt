@@ -16,7 +16,7 @@ use search::KeyBound;
 use slots::key;
 
 // Which walk of the Rust goes on below a slot.
-#[derive(Drop)]
+#[derive(Clone, Copy)]
 pub enum Walk {
     Full,
     Above(KeyBound),
@@ -26,7 +26,7 @@ pub enum Walk {
 }
 
 // What is shown of an entry: its data digest; its key and its value's digest (`witness_tree`); its key and value (`data_tree`).
-#[derive(Drop)]
+#[derive(Clone, Copy)]
 pub enum What {
     Hide,
     Label,
@@ -34,7 +34,7 @@ pub enum What {
 }
 
 // What becomes of a side: no record of its own; Pruned to its subtree digest; walked into.
-#[derive(Drop)]
+#[derive(Clone, Copy)]
 pub enum Part {
     Nothing,
     Hidden,
@@ -42,7 +42,7 @@ pub enum Part {
 }
 
 // An arm of a walk: the three parts that it joins.
-#[derive(Drop)]
+#[derive(Clone, Copy)]
 pub struct Arm {
     pub left: Part,
     pub middle: What,
@@ -50,7 +50,7 @@ pub struct Arm {
 }
 
 // All that `three_way_fork` looks at in a part.
-#[derive(Drop)]
+#[derive(Clone, Copy)]
 pub enum Kind {
     Empty,
     Pruned,
@@ -58,7 +58,7 @@ pub enum Kind {
 }
 
 // What `three_way_fork` makes of l, m and r. Its rule of three Pruned is never met (proofs/Never), and is left out.
-#[derive(Drop)]
+#[derive(Clone, Copy)]
 pub enum Shape {
     M,
     ForkLM,
@@ -68,14 +68,14 @@ pub enum Shape {
 }
 
 // What stands between the sides: the entry, or one Pruned of entry and right side.
-#[derive(Drop)]
+#[derive(Clone, Copy)]
 pub enum Middle {
     Entry(What),
     Both,
 }
 
 // The records of a node, in the order in which they are written: [Fork] left [Fork] middle right.
-#[derive(Drop)]
+#[derive(Clone, Copy)]
 pub struct Records {
     pub outer: bool,
     pub left: Part,
