@@ -1,5 +1,5 @@
 -- How many bytes a record takes in either form, and what the parts of a CBOR record put, over plain lists.
-use Prim.Native.Nat.{ℕ, zero, suc, ◌+◌, ◌-◌, ◌<◌, ◌≤◌}
+use Prim.Native.Nat.{ℕ, zero, suc, ◌+◌, ◌<◌, ◌≤◌}
 use mathlib.Core.Path.{◌≡◌, refl, sym, ap, ◌∙◌}
 use mathlib.Core.Bool.{Bool, true, false}
 use mathlib.Core.List.{List, [], ◌∷◌, ◌++◌}
@@ -12,7 +12,7 @@ use Rattle.hash_tree.specs.Written.{max_label, max_value, digest_len}
 use Rattle.hash_tree.proofs.ParseLaws.{length-piece}
 use Rattle.output.specs.Putting.{Puts}
 use Rattle.output.proofs.Putting.{puts_then}
-use Rattle.cbor.specs.Cbor.{array_of, string_head, own, put_cbor}
+use Rattle.cbor.specs.Cbor.{array_of, string_head, put_cbor}
 use Rattle.cbor.specs.declared.Way.{Way}
 use Rattle.cbor.specs.declared.Way.TheVariants.{Writing, Reading}
 use Rattle.cbor.specs.Walks.{source}

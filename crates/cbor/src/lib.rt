@@ -27,7 +27,7 @@ const STRING: usize = 0x40;
 const LONG_STRING: usize = 0x58;
 
 // From document 01's form to CBOR, or back.
-#[derive(Drop)]
+#[derive(Clone, Copy)]
 pub enum Way {
     Writing,
     Reading,

@@ -1,12 +1,10 @@
 -- Bytes that do no more than join the record, taken at once: k of them are k steps.
 use mathlib.Core.Path.{◌≡◌, refl, sym, ap, ap₂, ◌∙◌}
 use mathlib.Core.List.{List, [], ◌∷◌}
-use Prim.Native.Nat.{ℕ, zero, suc, ◌+◌, ◌-◌, ◌*◌, ◌/◌, ◌%◌, ◌≤◌, ◌<◌}
+use Prim.Native.Nat.{ℕ, suc, ◌+◌, ◌-◌, ◌*◌, ◌/◌, ◌%◌, ◌≤◌, ◌<◌}
 use native.Mathlib.Omega.{arith}
 use lib.ListN.{length, get_or, set, take, drop, length-set, length-drop}
 use lib.Seq.{sets, set-get_or, set-set, set_comm, get_or-set_same, get_or-set_other, take_all, take-add, length-take-le}
-use Rattle.hash_tree.specs.Written.{max_depth}
-use Rattle.hash_tree.specs.Record.{most}
 use Rattle.parts.specs.declared.Verdict.{Verdict}
 use Rattle.parts.specs.declared.Verdict.TheVariants.{More}
 use Rattle.parts.specs.Layout.{max_levels, count_of, held_of, verdict_of, joined, stepped, run, joins}
