@@ -5,7 +5,7 @@
 set -eu
 cd "$(dirname "$0")/.."
 machine=$(uname -m)
-clang=$(dirname "$(dirname "$(rt doc)")")/on/$machine/toolchain/bin/clang
+clang=$(dirname "$(rt doc)")/toolchain/bin/clang
 room=$(mktemp -d)
 trap 'rm -rf "$room"' EXIT
 

@@ -1,4 +1,4 @@
-/* Dampcandle: a register map in bytes that the caller lends, with witnesses. Link libc_boundary.a (rt staticlib c_boundary, x86-64).
+/* Dampcandle: a register map in bytes that the caller lends, with witnesses. Link libc_boundary.a (rt lib in crates/c_boundary, x86-64).
  *
  * Every call answers a number: 0 if it is done, else why it is refused (enum dampcandle_number). Where several apply, it is the first
  * of 1, 13, 2, 3, 4, 7, 5, 6. Each call is one function of the bytes and numbers that it is lent, and it ends, whatever they are; it keeps

@@ -6,6 +6,6 @@ cd "$(dirname "$0")/.."
 [ "$(uname -m)" = x86_64 ] || { echo "c-stack: it runs on x86-64 alone" >&2; exit 2; }
 room=$(mktemp -d)
 trap 'rm -rf "$room"' EXIT
-scripts/prove.sh staticlib c_boundary
-gcc -std=c11 -Wall -Wextra -Werror -Iinclude -O2 examples/c/stack.c target/staticlib/libc_boundary.a -o "$room/stack"
+scripts/prove.sh lib c_boundary
+gcc -std=c11 -Wall -Wextra -Werror -Iinclude -O2 examples/c/stack.c crates/c_boundary/out/libc_boundary.a -o "$room/stack"
 "$room/stack"

@@ -20,9 +20,9 @@ command -v rt >/dev/null || { echo "c-tour: rt is missing: the Rattle kit is nee
 for tool in "$cc" "${run[@]}"; do command -v "$tool" >/dev/null || missing "$tool"; done
 echo '#include <stdio.h>' | "$cc" -E - >/dev/null 2>&1 || missing "the C library's headers for $cc"
 
-scripts/prove.sh staticlib c_boundary || exit 1
+scripts/prove.sh lib c_boundary || exit 1
 warn=(-Wall -Wextra -Wpedantic -Wconversion -Werror -Iinclude)
-"$cc" -std=c11 "${warn[@]}" -O2 -static examples/c/tour.c target/staticlib/libc_boundary.a -o "$room/tour"
+"$cc" -std=c11 "${warn[@]}" -O2 -static examples/c/tour.c crates/c_boundary/out/libc_boundary.a -o "$room/tour"
 if command -v c++ >/dev/null; then
   c++ -std=c++11 "${warn[@]}" -fsyntax-only -x c++ include/dampcandle.h
 else

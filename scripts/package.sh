@@ -10,10 +10,10 @@ out=$(realpath -m "${1:-target/package}")
 name=dampcandle-$version
 here=$out/$name
 ./regmap --version >/dev/null
-scripts/prove.sh staticlib c_boundary
+scripts/prove.sh lib c_boundary
 rm -rf "$here"
 mkdir -p "$here"/{bin,include,lib/regmap,lib/pkgconfig,share/man/man1,share/bash-completion/completions,share/doc/dampcandle,examples}
-cp target/bin/regmap scripts/start-regmap.sh "$here/lib/regmap/"
+cp crates/regmap/out/regmap scripts/start-regmap.sh "$here/lib/regmap/"
 cat >"$here/bin/regmap" <<'SCRIPT'
 #!/bin/sh
 # The tool, from wherever this folder stands. The program has no exit status of its own; start with this script.
@@ -24,7 +24,7 @@ exec "$home/start-regmap.sh" env "$home/regmap" "$@"
 SCRIPT
 chmod +x "$here/bin/regmap"
 cp include/dampcandle.h "$here/include/"
-cp target/staticlib/libc_boundary.a "$here/lib/libdampcandle.a"
+cp crates/c_boundary/out/libc_boundary.a "$here/lib/libdampcandle.a"
 sed "s/@VERSION@/$version/" scripts/package/dampcandle.pc >"$here/lib/pkgconfig/dampcandle.pc"
 sed "s/@VERSION@/$version/" scripts/package/regmap.1 >"$here/share/man/man1/regmap.1"
 cp scripts/package/regmap.bash "$here/share/bash-completion/completions/regmap"

@@ -131,10 +131,10 @@ python3 -c 'for i in range(1025): print(f"{i:04x} 00")' >big.map && try 1 'big.m
 sed -i '$d' big.map && try 0 '1024 registers' build big.map b.store
 
 # ---- 6. the program without its script says how it ended
-if [ -x "$top/target/bin/regmap" ] && [ "$(uname -m)" = x86_64 ]; then
-  holds 'the program alone does not say ok' test "$("$top/target/bin/regmap" check one.w $D | tail -n 1)" = ok
-  holds 'the program alone does not say refused' test "$("$top/target/bin/regmap" check one.w "${D%9}8" 2>&1 | tail -n 1)" = refused
-  holds 'the program alone does not say failed' test "$("$top/target/bin/regmap" root none 2>&1 | tail -n 1)" = failed
+if [ -x "$top/crates/regmap/out/regmap" ] && [ "$(uname -m)" = x86_64 ]; then
+  holds 'the program alone does not say ok' test "$("$top/crates/regmap/out/regmap" check one.w $D | tail -n 1)" = ok
+  holds 'the program alone does not say refused' test "$("$top/crates/regmap/out/regmap" check one.w "${D%9}8" 2>&1 | tail -n 1)" = refused
+  holds 'the program alone does not say failed' test "$("$top/crates/regmap/out/regmap" root none 2>&1 | tail -n 1)" = failed
 fi
 
 # ---- 7. modes
