@@ -1,5 +1,5 @@
 // Standard input, a line at a time.
-use libc::STDIN_FILENO;
+use std::io::Read;
 
 // What was read: whether there was a line at all, whether the buffer had room for it, and its length, or 0 for one without room: the
 // empty line too is none that a call has. Then what is left of the chunk.
@@ -21,9 +21,13 @@ pub(crate) struct Byte {
     pub(crate) end: usize,
 }
 
-fn refill(chunk: &mut [u8]) -> usize {
-    let got = libc::read(STDIN_FILENO, chunk);
-    io::count(got, chunk)
+// As far as the input comes; 0 at its end, or where a read fails.
+fn refill(rt: &HostRuntime, chunk: &mut [u8]) -> usize {
+    let mut input = rt.stdin();
+    match input.read(chunk) {
+        Ok(n) => n,
+        Err(_) => 0,
+    }
 }
 
 fn byte_at(chunk: &[u8], at: usize, end: usize) -> Byte {
@@ -43,11 +47,11 @@ fn byte_at(chunk: &[u8], at: usize, end: usize) -> Byte {
     }
 }
 
-fn next(chunk: &mut [u8], at: usize, end: usize) -> Byte {
+fn next(rt: &HostRuntime, chunk: &mut [u8], at: usize, end: usize) -> Byte {
     if at < end {
         return byte_at(chunk, at, end);
     }
-    let n = refill(chunk);
+    let n = refill(rt, chunk);
     if n == 0 {
         return Byte {
             any: false,
@@ -60,7 +64,13 @@ fn next(chunk: &mut [u8], at: usize, end: usize) -> Byte {
 }
 
 // A loop has to end, and nothing says that the input does: it counts its turns down, from a number that no run uses up.
-pub(crate) fn read_line(chunk: &mut [u8], line: &mut [u8], from: usize, to: usize) -> Line {
+pub(crate) fn read_line(
+    rt: &HostRuntime,
+    chunk: &mut [u8],
+    line: &mut [u8],
+    from: usize,
+    to: usize,
+) -> Line {
     let mut turns = u64::MAX;
     let mut got = Line {
         any: false,
@@ -71,7 +81,7 @@ pub(crate) fn read_line(chunk: &mut [u8], line: &mut [u8], from: usize, to: usiz
     };
     while turns > 0 {
         turns -= 1;
-        let b = next(chunk, got.at, got.end);
+        let b = next(rt, chunk, got.at, got.end);
         got.at = b.at;
         got.end = b.end;
         if !b.any {

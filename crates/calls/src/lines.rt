@@ -51,10 +51,10 @@ fn load(new: &[u8], store: &mut [u8], sizes: Sizes) -> Sizes {
         say_unknown();
         return sizes;
     }
-    let n = bytes::copy(new, store);
+    store[..new.len()].copy_from_slice(new);
     say_ok();
     Sizes {
-        store: n,
+        store: new.len(),
         other: sizes.other,
         output: sizes.output,
     }
@@ -70,7 +70,7 @@ fn poke(at: u64, new: &[u8], store: &mut [u8]) {
         say_unknown();
         return;
     }
-    bytes::copy(new, &mut store[from..]);
+    store[from..from + new.len()].copy_from_slice(new);
     say_ok();
 }
 
@@ -327,6 +327,7 @@ fn turn(
 
 // A loop has to end, and nothing says that the input does: it counts its turns down, from a number that no run uses up.
 pub(crate) fn run(
+    rt: &HostRuntime,
     chunk: &mut [u8],
     line: &mut [u8],
     both: &mut [u8],
@@ -344,7 +345,7 @@ pub(crate) fn run(
     };
     while turns > 0 {
         turns -= 1;
-        let got = read_line(chunk, line, at, end);
+        let got = read_line(rt, chunk, line, at, end);
         if !got.any {
             return;
         }

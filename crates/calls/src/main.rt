@@ -14,11 +14,18 @@ mod names;
 mod reply;
 mod words;
 
-fn main() {
+fn main(rt: HostRuntime) {
     let mut chunk = [0u8; 65_536];
     let mut line = [0u8; 320_000];
     let mut both = [0u8; 307_216];
     let mut output = [0u8; 131_072];
     let mut state = [0u8; parts::STATE];
-    lines::run(&mut chunk, &mut line, &mut both, &mut output, &mut state);
+    lines::run(
+        &rt,
+        &mut chunk,
+        &mut line,
+        &mut both,
+        &mut output,
+        &mut state,
+    );
 }

@@ -1,12 +1,13 @@
 // Lines of answer, on standard output.
 use answers::{Found, Saved};
-use libc::STDOUT_FILENO;
 use lookup::{Looked, LookedUp};
 use replay::Replayed;
 use text::print::{say, say_hex};
 use text::words::within;
 
 // ---- parts of a line
+
+const STDOUT_FILENO: i32 = 1;
 
 fn put(s: &[u8]) {
     say(STDOUT_FILENO, s);

@@ -156,7 +156,14 @@ fn refuse_count(map: &[u8], line: usize, count: usize, err: i32) -> usize {
 }
 
 // Writes the store, if nothing stopped the reading of its map and its count agrees.
-fn finished(line: &[u8], text: &[u8], stop: Stop, store: &[u8], err: i32) -> usize {
+fn finished(
+    rt: &HostRuntime,
+    line: &[u8],
+    text: &[u8],
+    stop: Stop,
+    store: &[u8],
+    err: i32,
+) -> usize {
     let fault = stop.fault;
     if stops(fault) {
         return refuse_line(word(line, 1), text, stop, err);
@@ -166,17 +173,24 @@ fn finished(line: &[u8], text: &[u8], stop: Stop, store: &[u8], err: i32) -> usi
     if wrong != 0 {
         return refuse_count(word(line, 1), wrong, r.count, err);
     }
-    if !save(word(line, 2), store, true, err) {
+    if !save(rt, word(line, 2), store, true, err) {
         return TROUBLE;
     }
     say_store(said_to(word(line, 2)), store);
     DONE
 }
 
-fn made(line: &[u8], text: &[u8], store: &mut [u8], capacity: usize, err: i32) -> usize {
+fn made(
+    rt: &HostRuntime,
+    line: &[u8],
+    text: &[u8],
+    store: &mut [u8],
+    capacity: usize,
+    err: i32,
+) -> usize {
     let n = within(size(capacity), store);
     let stop = filled(text, &mut store[..n], capacity);
-    finished(line, text, stop, part(store, 0, n), err)
+    finished(rt, line, text, stop, part(store, 0, n), err)
 }
 
 // At most 1024 and at least 1.
@@ -198,34 +212,34 @@ fn names_in(stop: Stop, store: &[u8], lines: usize) -> usize {
 }
 
 // With a slot for each line; if a name stood twice, made anew with one for each name.
-fn fitted(line: &[u8], text: &[u8], store: &mut [u8], err: i32) -> usize {
+fn fitted(rt: &HostRuntime, line: &[u8], text: &[u8], store: &mut [u8], err: i32) -> usize {
     let lines = lawful(lines_of(text));
     let n = within(size(lines), store);
     let stop = filled(text, &mut store[..n], lines);
     let names = names_in(stop, part(store, 0, n), lines);
     if names < lines {
-        return made(line, text, store, names, err);
+        return made(rt, line, text, store, names, err);
     }
-    finished(line, text, stop, part(store, 0, n), err)
+    finished(rt, line, text, stop, part(store, 0, n), err)
 }
 
-fn built(line: &[u8], text: &[u8], err: i32) -> usize {
+fn built(rt: &HostRuntime, line: &[u8], text: &[u8], err: i32) -> usize {
     let mut store = [0u8; 153_608];
     if has(line, 3) {
-        return fitted(line, text, &mut store, err);
+        return fitted(rt, line, text, &mut store, err);
     }
     let Number::Is(capacity) = hex::decimal(word(line, 4)) else {
         return refuse(err, word(line, 4), 8);
     };
-    made(line, text, &mut store, capacity as usize, err)
+    made(rt, line, text, &mut store, capacity as usize, err)
 }
 
-pub(crate) fn build(line: &[u8], err: i32) -> usize {
+pub(crate) fn build(rt: &HostRuntime, line: &[u8], err: i32) -> usize {
     let mut text = [0u8; 524_288];
-    let Loaded::Whole(n) = load(word(line, 1), &mut text, err) else {
+    let Loaded::Whole(n) = load(rt, word(line, 1), &mut text, err) else {
         return TROUBLE;
     };
     unzeroed(&mut text);
     blanked(&mut text);
-    built(line, part(&text, 0, n), err)
+    built(rt, line, part(&text, 0, n), err)
 }

@@ -20,21 +20,21 @@ fn no_run(err: i32) -> usize {
 }
 
 // Does one command, and answers its status. Complaints go to `err`.
-pub(crate) fn command(line: &[u8], err: i32) -> usize {
+pub(crate) fn command(rt: &HostRuntime, line: &[u8], err: i32) -> usize {
     let kind = kind_of(line, err);
     match kind {
-        0..=2 => stores::ask(kind, line, err),
-        3..=5 => stores::change(kind, line, err),
-        6..=9 => witnesses::cut(kind, line, err),
-        kinds::MERGE => merge_files(line, err),
-        kinds::CBOR | kinds::UNCBOR => exchange_file(kind, line, err),
-        kinds::DIFF => diff(line, err),
-        kinds::BUILD => build(line, err),
-        kinds::REPLAY => replay(line, err),
-        kinds::LOG => show(line, err),
+        0..=2 => stores::ask(rt, kind, line, err),
+        3..=5 => stores::change(rt, kind, line, err),
+        6..=9 => witnesses::cut(rt, kind, line, err),
+        kinds::MERGE => merge_files(rt, line, err),
+        kinds::CBOR | kinds::UNCBOR => exchange_file(rt, kind, line, err),
+        kinds::DIFF => diff(rt, line, err),
+        kinds::BUILD => build(rt, line, err),
+        kinds::REPLAY => replay(rt, line, err),
+        kinds::LOG => show(rt, line, err),
         kinds::RUN => no_run(err),
         kinds::NONE => TROUBLE,
         kinds::SAID => DONE,
-        _ => inspect(kind, line, err),
+        _ => inspect(rt, kind, line, err),
     }
 }

@@ -12,6 +12,7 @@ mod witnesses;
 ghost use Rattle.std.specs.Prelude.{◌≤◌, length};
 
 use regmap_words::says::{DONE, OUT, REFUSED, TROUBLE};
+use std::env::{Env, FillError};
 use text::print::say;
 use text::words::{is, part, rest, word};
 
@@ -38,14 +39,13 @@ fn empty_word(line: &mut [u8], at: usize) -> usize
 }
 
 // Puts the argument `i` at the place, a zero byte after it, and answers the next place; the end, if it does not fit.
-fn argument(line: &mut [u8], at: usize, i: usize) -> usize
+fn argument(rt: &HostRuntime, line: &mut [u8], at: usize, i: usize) -> usize
     requires { at ≤ length line.old }
     ensures { result ≤ length line.old }
 {
-    let n = os::arg(i, &mut line[at..]);
-    if os::errno() != 0 {
+    let Ok(n) = rt.arg(i, &mut line[at..]) else {
         return line.len();
-    }
+    };
     if n == 0 {
         return empty_word(line, at);
     }
@@ -57,13 +57,31 @@ fn argument(line: &mut [u8], at: usize, i: usize) -> usize
     end
 }
 
+fn is_there(rt: &HostRuntime, i: usize) -> bool {
+    let mut none = [0u8; 0];
+    match rt.arg(i, &mut none) {
+        Err(FillError::NotPresent) => false,
+        _ => true,
+    }
+}
+
+// How many arguments there are, the program's own name among them.
+fn arg_count(rt: &HostRuntime) -> usize {
+    for i in 0..usize::MAX {
+        if !is_there(rt, i) {
+            return i;
+        }
+    }
+    usize::MAX
+}
+
 // The arguments as a line of words; answers its length, which is all of the line if they do not fit.
-fn arguments(line: &mut [u8]) -> usize {
-    let count = os::arg_count();
+fn arguments(rt: &HostRuntime, line: &mut [u8]) -> usize {
+    let count = arg_count(rt);
     let mut at = 0;
     let mut i = 1;
     while i < count {
-        at = argument(line, at, i);
+        at = argument(rt, line, at, i);
         i += 1;
     }
     at
@@ -83,18 +101,18 @@ fn say_end(status: usize) {
     }
 }
 
-fn main() {
+fn main(rt: HostRuntime) {
     let mut line = [0u8; 16_384];
-    let n = arguments(&mut line);
+    let n = arguments(&rt, &mut line);
     if n == 16_384 {
         say(2, b"regmap: the words are too long: 16 KiB are read.\n");
         text::print::say_number(3, TROUBLE);
         return say_end(TROUBLE);
     }
     if is_watched(part(&line, 0, n)) {
-        let status = script::done(rest(part(&line, 0, n), 1));
+        let status = script::done(&rt, rest(part(&line, 0, n), 1));
         return text::print::say_number(3, status);
     }
-    let status = script::done(part(&line, 0, n));
+    let status = script::done(&rt, part(&line, 0, n));
     say_end(status);
 }

@@ -26,12 +26,12 @@ fn say_status(status: usize) {
 }
 
 // Does a line's command, and answers the status with which the run stops.
-fn step(line: &[u8]) -> usize {
+fn step(rt: &HostRuntime, line: &[u8]) -> usize {
     if may_fail(line) {
-        say_status(command(rest(line, 1), OUT));
+        say_status(command(rt, rest(line, 1), OUT));
         return DONE;
     }
-    command(line, OUT)
+    command(rt, line, OUT)
 }
 
 // The status, or trouble if something that was printed is lost.
@@ -51,20 +51,20 @@ fn say_line(line: &[u8]) {
     say(OUT, b"\n");
 }
 
-fn turn(line: &mut [u8]) -> usize {
+fn turn(rt: &HostRuntime, line: &mut [u8]) -> usize {
     say_line(line);
     blanked(line);
     if is_empty(line) {
         return DONE;
     }
-    seen(step(line))
+    seen(step(rt, line))
 }
 
-fn turns(script: &mut [u8]) -> usize {
+fn turns(rt: &HostRuntime, script: &mut [u8]) -> usize {
     let mut at = 0;
     while at < script.len() {
         let end = find(script, at, b'\n');
-        let status = turn(&mut script[at..end]);
+        let status = turn(rt, &mut script[at..end]);
         if status != DONE {
             return status;
         }
@@ -73,19 +73,19 @@ fn turns(script: &mut [u8]) -> usize {
     DONE
 }
 
-fn run(path: &[u8], script: &mut [u8]) -> usize {
-    let Loaded::Whole(n) = load(path, script, ERR) else {
+fn run(rt: &HostRuntime, path: &[u8], script: &mut [u8]) -> usize {
+    let Loaded::Whole(n) = load(rt, path, script, ERR) else {
         return TROUBLE;
     };
     let e = within(n, script);
-    turns(&mut script[..e])
+    turns(rt, &mut script[..e])
 }
 
 // Does what the arguments ask, and answers the status.
-pub(crate) fn done(line: &[u8]) -> usize {
+pub(crate) fn done(rt: &HostRuntime, line: &[u8]) -> usize {
     if is(word(line, 0), b"run") && has(line, 2) {
         let mut script = [0u8; 65_536];
-        return run(word(line, 1), &mut script);
+        return run(rt, word(line, 1), &mut script);
     }
-    seen(command(line, ERR))
+    seen(command(rt, line, ERR))
 }

@@ -9,6 +9,7 @@ use regmap_words::kinds;
 use regmap_words::kinds::is_json;
 use regmap_words::says::{DONE, OUT, REFUSED, TROUBLE, refuse, say_registers};
 use search::Place;
+use std::fs::File;
 use text::hex;
 use text::print::{say, say_name, say_number, say_with_hex, say3};
 use text::words::{part, piece, within, word};
@@ -138,9 +139,9 @@ fn root(line: &[u8], store: &[u8], err: i32) -> usize {
     DONE
 }
 
-pub(crate) fn ask(kind: usize, line: &[u8], err: i32) -> usize {
+pub(crate) fn ask(rt: &HostRuntime, kind: usize, line: &[u8], err: i32) -> usize {
     let mut store = [0u8; ROOM];
-    let Loaded::Whole(n) = load(word(line, 1), &mut store, err) else {
+    let Loaded::Whole(n) = load(rt, word(line, 1), &mut store, err) else {
         return TROUBLE;
     };
     let bytes = part(&store, 0, n);
@@ -228,13 +229,20 @@ fn unchanged(kind: usize, line: &[u8], store: &[u8], change: Outcome, err: i32) 
 }
 
 // The bytes of a store that is held: changed, and written or given up.
-fn changed(kind: usize, line: &[u8], fd: i32, store: &mut [u8], err: i32) -> usize {
+fn changed(
+    rt: &HostRuntime,
+    kind: usize,
+    line: &[u8],
+    file: File,
+    store: &mut [u8],
+    err: i32,
+) -> usize {
     let change = altered(kind, line, store);
     let Outcome::Done = change else {
-        release(fd, word(line, 1));
+        release(rt, file, word(line, 1));
         return unchanged(kind, line, store, change, err);
     };
-    if !finish(fd, word(line, 1), store, err) {
+    if !finish(rt, file, word(line, 1), store, err) {
         return TROUBLE;
     }
     say_store(OUT, store);
@@ -242,20 +250,26 @@ fn changed(kind: usize, line: &[u8], fd: i32, store: &mut [u8], err: i32) -> usi
 }
 
 // The store is held; it is read and changed.
-fn held(kind: usize, line: &[u8], fd: i32, store: &mut [u8], err: i32) -> usize {
-    let Loaded::Whole(n) = load(word(line, 1), store, err) else {
-        release(fd, word(line, 1));
+fn held(
+    rt: &HostRuntime,
+    kind: usize,
+    line: &[u8],
+    file: File,
+    store: &mut [u8],
+    err: i32,
+) -> usize {
+    let Loaded::Whole(n) = load(rt, word(line, 1), store, err) else {
+        release(rt, file, word(line, 1));
         return TROUBLE;
     };
     let e = within(n, store);
-    changed(kind, line, fd, &mut store[..e], err)
+    changed(rt, kind, line, file, &mut store[..e], err)
 }
 
-pub(crate) fn change(kind: usize, line: &[u8], err: i32) -> usize {
-    let fd = lock(word(line, 1), err);
-    if fd < 0 {
+pub(crate) fn change(rt: &HostRuntime, kind: usize, line: &[u8], err: i32) -> usize {
+    let Some(file) = lock(rt, word(line, 1), err) else {
         return TROUBLE;
-    }
+    };
     let mut store = [0u8; ROOM];
-    held(kind, line, fd, &mut store, err)
+    held(rt, kind, line, file, &mut store, err)
 }

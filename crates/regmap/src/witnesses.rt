@@ -84,8 +84,15 @@ fn made(kind: usize, line: &[u8], store: &[u8], out: &mut [u8]) -> Saved {
 }
 
 // Writes the witness, and says its length, the digest that it rebuilds to, and what it shows.
-fn keep(kind: usize, line: &[u8], store: &[u8], witness: &[u8], err: i32) -> usize {
-    if !save(word(line, 2), witness, false, err) {
+fn keep(
+    rt: &HostRuntime,
+    kind: usize,
+    line: &[u8],
+    store: &[u8],
+    witness: &[u8],
+    err: i32,
+) -> usize {
+    if !save(rt, word(line, 2), witness, false, err) {
         return TROUBLE;
     }
     say_cut(word(line, 2), witness);
@@ -93,19 +100,19 @@ fn keep(kind: usize, line: &[u8], store: &[u8], witness: &[u8], err: i32) -> usi
     DONE
 }
 
-fn cut_from(kind: usize, line: &[u8], store: &[u8], err: i32) -> usize {
+fn cut_from(rt: &HostRuntime, kind: usize, line: &[u8], store: &[u8], err: i32) -> usize {
     let mut out = [0u8; 120_830];
     let r = made(kind, line, store, &mut out);
     if r.number != 0 {
         return refuse_on(err, line, store, word(line, 3), r.number);
     }
-    keep(kind, line, store, part(&out, 0, r.size), err)
+    keep(rt, kind, line, store, part(&out, 0, r.size), err)
 }
 
-pub(crate) fn cut(kind: usize, line: &[u8], err: i32) -> usize {
+pub(crate) fn cut(rt: &HostRuntime, kind: usize, line: &[u8], err: i32) -> usize {
     let mut store = [0u8; ROOM];
-    let Loaded::Whole(n) = load(word(line, 1), &mut store, err) else {
+    let Loaded::Whole(n) = load(rt, word(line, 1), &mut store, err) else {
         return TROUBLE;
     };
-    cut_from(kind, line, part(&store, 0, n), err)
+    cut_from(rt, kind, line, part(&store, 0, n), err)
 }

@@ -20,16 +20,16 @@ fn say_cbor(path: &[u8], length: usize, witness: &[u8]) {
     say_with_hex(to, b" bytes of CBOR, root ", &digest, b"\n");
 }
 
-fn keep_cbor(line: &[u8], witness: &[u8], made: &[u8], err: i32) -> usize {
-    if !save_as(word(line, 2), made, Holds::Cbor, err) {
+fn keep_cbor(rt: &HostRuntime, line: &[u8], witness: &[u8], made: &[u8], err: i32) -> usize {
+    if !save_as(rt, word(line, 2), made, Holds::Cbor, err) {
         return TROUBLE;
     }
     say_cbor(word(line, 2), made.len(), witness);
     DONE
 }
 
-fn keep_witness(line: &[u8], made: &[u8], err: i32) -> usize {
-    if !save(word(line, 2), made, false, err) {
+fn keep_witness(rt: &HostRuntime, line: &[u8], made: &[u8], err: i32) -> usize {
+    if !save(rt, word(line, 2), made, false, err) {
         return TROUBLE;
     }
     say_cut(word(line, 2), made);
@@ -44,14 +44,22 @@ fn refused(line: &[u8], bytes: &[u8], number: usize, err: i32) -> usize {
     REFUSED
 }
 
-fn keep(kind: usize, line: &[u8], bytes: &[u8], made: &[u8], number: usize, err: i32) -> usize {
+fn keep(
+    rt: &HostRuntime,
+    kind: usize,
+    line: &[u8],
+    bytes: &[u8],
+    made: &[u8],
+    number: usize,
+    err: i32,
+) -> usize {
     if number != 0 {
         return refused(line, bytes, number, err);
     }
     if kind == kinds::CBOR {
-        return keep_cbor(line, bytes, made, err);
+        return keep_cbor(rt, line, bytes, made, err);
     }
-    keep_witness(line, made, err)
+    keep_witness(rt, line, made, err)
 }
 
 fn other_form(kind: usize, bytes: &[u8], out: &mut [u8]) -> Saved {
@@ -61,17 +69,17 @@ fn other_form(kind: usize, bytes: &[u8], out: &mut [u8]) -> Saved {
     read_cbor(bytes, out)
 }
 
-fn exchanged(kind: usize, line: &[u8], bytes: &[u8], err: i32) -> usize {
+fn exchanged(rt: &HostRuntime, kind: usize, line: &[u8], bytes: &[u8], err: i32) -> usize {
     let mut out = [0u8; 524_288];
     let r = other_form(kind, bytes, &mut out);
-    keep(kind, line, bytes, part(&out, 0, r.size), r.number, err)
+    keep(rt, kind, line, bytes, part(&out, 0, r.size), r.number, err)
 }
 
 // The other form of a file.
-pub fn exchange_file(kind: usize, line: &[u8], err: i32) -> usize {
+pub fn exchange_file(rt: &HostRuntime, kind: usize, line: &[u8], err: i32) -> usize {
     let mut bytes = [0u8; 524_288];
-    let Loaded::Whole(n) = load(word(line, 1), &mut bytes, err) else {
+    let Loaded::Whole(n) = load(rt, word(line, 1), &mut bytes, err) else {
         return TROUBLE;
     };
-    exchanged(kind, line, part(&bytes, 0, n), err)
+    exchanged(rt, kind, line, part(&bytes, 0, n), err)
 }

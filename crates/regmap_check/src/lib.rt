@@ -257,13 +257,13 @@ fn unmerged(line: &[u8], one: &[u8], other: &[u8], number: usize, err: i32) -> u
     REFUSED
 }
 
-fn merged(line: &[u8], one: &[u8], other: &[u8], err: i32) -> usize {
+fn merged(rt: &HostRuntime, line: &[u8], one: &[u8], other: &[u8], err: i32) -> usize {
     let mut out = [0u8; 524_288];
     let r = merge(one, other, &mut out);
     if r.number != 0 {
         return unmerged(line, one, other, r.number, err);
     }
-    if !save(word(line, 3), part(&out, 0, r.size), false, err) {
+    if !save(rt, word(line, 3), part(&out, 0, r.size), false, err) {
         return TROUBLE;
     }
     say_cut(word(line, 3), part(&out, 0, r.size));
@@ -271,21 +271,21 @@ fn merged(line: &[u8], one: &[u8], other: &[u8], err: i32) -> usize {
 }
 
 // Two witnesses of one release in one.
-pub fn merge_files(line: &[u8], err: i32) -> usize {
+pub fn merge_files(rt: &HostRuntime, line: &[u8], err: i32) -> usize {
     let mut one = [0u8; 524_288];
-    let Loaded::Whole(n) = load(word(line, 1), &mut one, err) else {
+    let Loaded::Whole(n) = load(rt, word(line, 1), &mut one, err) else {
         return TROUBLE;
     };
     let mut other = [0u8; 524_288];
-    let Loaded::Whole(m) = load(word(line, 2), &mut other, err) else {
+    let Loaded::Whole(m) = load(rt, word(line, 2), &mut other, err) else {
         return TROUBLE;
     };
-    merged(line, part(&one, 0, n), part(&other, 0, m), err)
+    merged(rt, line, part(&one, 0, n), part(&other, 0, m), err)
 }
 
 // ---- many files
 
-fn check_line(line: &[u8], err: i32) -> usize {
+fn check_line(rt: &HostRuntime, line: &[u8], err: i32) -> usize {
     if register_on(line) == 0 {
         return DONE;
     }
@@ -293,19 +293,19 @@ fn check_line(line: &[u8], err: i32) -> usize {
         return TROUBLE;
     }
     let mut buf = [0u8; 524_288];
-    let Loaded::Whole(n) = load(word(line, 1), &mut buf, err) else {
+    let Loaded::Whole(n) = load(rt, word(line, 1), &mut buf, err) else {
         return TROUBLE;
     };
     check(word(line, 1), word(line, 0), false, part(&buf, 0, n), err)
 }
 
 // Every line of a list, DIGEST WITNESS; the worst status of all.
-fn check_lines(list: &[u8], err: i32) -> usize {
+fn check_lines(rt: &HostRuntime, list: &[u8], err: i32) -> usize {
     let mut worst = DONE;
     let mut at = 0;
     while at < list.len() {
         let end = find(list, at, b'\n');
-        let status = check_line(&list[at..end], err);
+        let status = check_line(rt, &list[at..end], err);
         if worst < status {
             worst = status;
         }
@@ -314,24 +314,24 @@ fn check_lines(list: &[u8], err: i32) -> usize {
     worst
 }
 
-fn check_list(path: &[u8], err: i32) -> usize {
+fn check_list(rt: &HostRuntime, path: &[u8], err: i32) -> usize {
     let mut list = [0u8; 65_536];
-    let Loaded::Whole(n) = load(path, &mut list, err) else {
+    let Loaded::Whole(n) = load(rt, path, &mut list, err) else {
         return TROUBLE;
     };
     blanked(&mut list);
-    check_lines(part(&list, 0, n), err)
+    check_lines(rt, part(&list, 0, n), err)
 }
 
-pub fn inspect(kind: usize, line: &[u8], err: i32) -> usize {
+pub fn inspect(rt: &HostRuntime, kind: usize, line: &[u8], err: i32) -> usize {
     if is(word(line, 1), b"-c") {
-        return check_list(word(line, 2), err);
+        return check_list(rt, word(line, 2), err);
     }
     if kind == kinds::CHECK && is(word(line, 1), b"-") {
-        return check_stream(word(line, 2), is_json(line), err);
+        return check_stream(rt, word(line, 2), is_json(line), err);
     }
     let mut buf = [0u8; 524_288];
-    let Loaded::Whole(n) = load(word(line, 1), &mut buf, err) else {
+    let Loaded::Whole(n) = load(rt, word(line, 1), &mut buf, err) else {
         return TROUBLE;
     };
     show(kind, line, part(&buf, 0, n), err)

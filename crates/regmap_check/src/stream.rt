@@ -5,6 +5,7 @@ use crate::{compared, is_wanted, no_witness, say_other};
 use parts::{STATE, rebuild_begin, rebuild_end, rebuild_part};
 use regmap_files::trouble;
 use regmap_words::says::{DONE, OUT, TROUBLE, refuse};
+use std::io::Read;
 use text::print::{say, say_number};
 use text::words::part;
 
@@ -45,18 +46,20 @@ fn first_bad(before: [u8; STATE], bytes: &[u8]) -> usize
     i
 }
 
-fn take(kept: &mut [u8], state: &mut [u8; STATE], err: i32) -> Came
+fn take(rt: &HostRuntime, kept: &mut [u8], state: &mut [u8; STATE], err: i32) -> Came
     requires { length kept.old ≡ 524288 }
 {
+    let mut input = rt.stdin();
     let mut n = 0;
     while n < MOST {
         let at = place(n, kept.len());
-        let got = libc::read(0, &mut kept[at..]);
-        if got < 0 {
-            trouble(err, b"read ", b"-");
-            return Came::Failed;
-        }
-        let more = io::count(got, &kept[at..]);
+        let more = match input.read(&mut kept[at..]) {
+            Ok(more) => more,
+            Err(e) => {
+                trouble(err, b"read ", b"-", e);
+                return Came::Failed;
+            }
+        };
         if more == 0 {
             return Came::Ended(n);
         }
@@ -126,11 +129,11 @@ fn ended(n: usize, wanted: &[u8], json: bool, state: &[u8; STATE], kept: &[u8], 
     compared_long(n, wanted, json, &digest, err)
 }
 
-pub fn check_stream(wanted: &[u8], json: bool, err: i32) -> usize {
+pub fn check_stream(rt: &HostRuntime, wanted: &[u8], json: bool, err: i32) -> usize {
     let mut kept = [0u8; 524_288];
     let mut state = [0u8; STATE];
     rebuild_begin(&mut state);
-    let came = take(&mut kept, &mut state, err);
+    let came = take(rt, &mut kept, &mut state, err);
     match came {
         Came::Failed => TROUBLE,
         Came::Bad(at) => stopped(at, &kept, err),

@@ -134,13 +134,13 @@ fn compare(line: &[u8], old: &[u8], new: &[u8], err: i32) -> usize {
 }
 
 // Status 0: no difference; 1: some; 2: a file that can't be read, or is no sound store.
-pub fn diff(line: &[u8], err: i32) -> usize {
+pub fn diff(rt: &HostRuntime, line: &[u8], err: i32) -> usize {
     let mut old = [0u8; ROOM];
-    let Loaded::Whole(n) = load(word(line, 1), &mut old, err) else {
+    let Loaded::Whole(n) = load(rt, word(line, 1), &mut old, err) else {
         return TROUBLE;
     };
     let mut new = [0u8; ROOM];
-    let Loaded::Whole(m) = load(word(line, 2), &mut new, err) else {
+    let Loaded::Whole(m) = load(rt, word(line, 2), &mut new, err) else {
         return TROUBLE;
     };
     compare(line, part(&old, 0, n), part(&new, 0, m), err)

@@ -2,6 +2,13 @@
 // A name `-` is standard input where a file is read, and standard output where one is written.
 #![tactic(auto)]
 
+use std::fs::{File, OpenOptions};
+use std::io::{ErrorKind, Read, Seek, SeekFrom, Write};
+use std::os::fd::{AsRawFd, IntoRawFd};
+use std::os::unix::fs::FileExt;
+use std::str::from_utf8;
+use std::{fs, io};
+use std_io::io::last_error;
 use text::print::{say, say_number, say3};
 use text::words::{is, part, word};
 
@@ -11,24 +18,24 @@ a folder of its path is a file\0the disk is full\0\
 its .new is there: another run is at work, or was cut off. Wait for it; if none is at work, remove that file\0\
 the file system may only be read\0its name is too long\0no reader is left";
 
-fn reason(error: i32) -> usize {
-    match error {
-        libc::ENOENT => 1,
-        libc::EACCES | libc::EPERM => 2,
-        libc::EISDIR => 3,
-        libc::ENOTDIR => 4,
-        libc::ENOSPC => 5,
-        libc::EEXIST => 6,
-        libc::EROFS => 7,
-        libc::ENAMETOOLONG => 8,
-        libc::EPIPE => 9,
+fn reason(error: io::Error) -> usize {
+    match error.kind() {
+        ErrorKind::NotFound => 1,
+        ErrorKind::PermissionDenied => 2,
+        ErrorKind::IsADirectory => 3,
+        ErrorKind::NotADirectory => 4,
+        ErrorKind::StorageFull => 5,
+        ErrorKind::AlreadyExists => 6,
+        ErrorKind::ReadOnlyFilesystem => 7,
+        ErrorKind::InvalidFilename => 8,
+        ErrorKind::BrokenPipe => 9,
         _ => 0,
     }
 }
 
-// Says why the last call failed.
-pub fn trouble(err: i32, what: &[u8], path: &[u8]) {
-    let k = reason(os::errno());
+// Says why a call failed.
+pub fn trouble(err: i32, what: &[u8], path: &[u8], error: io::Error) {
+    let k = reason(error);
     say3(err, b"regmap: can't ", what, path);
     say3(err, b": ", word(&REASONS, k), b".\n");
 }
@@ -42,21 +49,17 @@ pub enum Loaded {
     No,
 }
 
-// Reads until the file ends or the buffer is full: how many bytes, or nothing where a read failed.
-fn read_all(fd: i32, buf: &mut [u8]) -> Loaded {
+// Reads until the file ends or the buffer is full: how many bytes, or why a read failed.
+fn read_all<R: Read>(file: &mut R, buf: &mut [u8]) -> io::Result<usize> {
     let mut n = 0;
     while n < buf.len() {
-        let got = libc::read(fd, &mut buf[n..]);
-        if got < 0 {
-            return Loaded::No;
-        }
-        let more = io::count(got, &buf[n..]);
+        let more = file.read(&mut buf[n..])?;
         if more == 0 {
-            return Loaded::Whole(n);
+            return Ok(n);
         }
         n += more;
     }
-    Loaded::Whole(n)
+    Ok(n)
 }
 
 fn too_long(err: i32, path: &[u8], n: usize) {
@@ -65,41 +68,58 @@ fn too_long(err: i32, path: &[u8], n: usize) {
     say(err, b" bytes are read.\n");
 }
 
-fn opened(path: &[u8]) -> i32 {
+// The system takes shorter paths than this.
+const PATH_MAX: usize = 4096;
+
+// A path as std takes it: one that is too long or no UTF-8 is refused.
+fn named(path: &[u8]) -> io::Result<&str> {
+    if path.len() >= PATH_MAX {
+        return Err(io::Error::from(ErrorKind::InvalidFilename));
+    }
+    match from_utf8(path) {
+        Ok(name) => Ok(name),
+        Err(_) => Err(io::Error::from(ErrorKind::InvalidInput)),
+    }
+}
+
+// One that took the place of a standard stream stays open, so that nothing else takes it.
+fn closed(file: File) {
+    if file.as_raw_fd() > 2 {
+        return drop(file);
+    }
+    let _ = file.into_raw_fd();
+}
+
+fn read_path(rt: &HostRuntime, path: &[u8], buf: &mut [u8]) -> io::Result<usize> {
     if is(path, b"-") {
-        return 0;
+        let mut input = rt.stdin();
+        return read_all(&mut input, buf);
     }
-    os::open_read(path)
+    let mut file = File::open(rt, named(path)?)?;
+    let read = read_all(&mut file, buf);
+    closed(file);
+    read
 }
 
-fn closed(fd: i32) {
-    if fd > 2 {
-        libc::close(fd);
+pub fn load(rt: &HostRuntime, path: &[u8], buf: &mut [u8], err: i32) -> Loaded {
+    match read_path(rt, path, buf) {
+        Err(e) => {
+            trouble(err, b"read ", path, e);
+            Loaded::No
+        }
+        Ok(n) => {
+            if n < buf.len() {
+                return Loaded::Whole(n);
+            }
+            too_long(err, path, n);
+            Loaded::No
+        }
     }
-}
-
-pub fn load(path: &[u8], buf: &mut [u8], err: i32) -> Loaded {
-    let fd = opened(path);
-    if fd < 0 {
-        trouble(err, b"read ", path);
-        return Loaded::No;
-    }
-    let Loaded::Whole(n) = read_all(fd, buf) else {
-        trouble(err, b"read ", path);
-        closed(fd);
-        return Loaded::No;
-    };
-    closed(fd);
-    if n < buf.len() {
-        return Loaded::Whole(n);
-    }
-    too_long(err, path, n);
-    Loaded::No
 }
 
 // ---- what a file holds, by its first two bytes
 
-#[derive(Drop)]
+#[derive(Clone, Copy)]
 pub enum Holds {
     Nothing,
     Store,
@@ -196,83 +216,104 @@ fn beside(path: &[u8]) -> NewName {
     NewName { len: 4096, name }
 }
 
-// Makes the `.new`, which nobody else can make until it is gone; below 0 if it can't be made, and that was said.
-pub fn lock(path: &[u8], err: i32) -> i32 {
+fn create(rt: &HostRuntime, path: &[u8]) -> io::Result<File> {
+    OpenOptions::new()
+        .write(true)
+        .create_new(true)
+        .open(rt, named(path)?)
+}
+
+// Makes the `.new`, which nobody else can make until it is gone; nothing if it can't be made, and that was said.
+pub fn lock(rt: &HostRuntime, path: &[u8], err: i32) -> Option<File> {
     if is(path, b"-") {
         say(
             err,
             b"regmap: - is no file that can be changed: name one.\n",
         );
-        return -1;
+        return None;
     }
     let b = beside(path);
     let name = b.name;
-    let fd = os::create(part(&name, 0, b.len));
-    if fd < 0 {
-        trouble(err, b"write ", path);
-        return fd;
+    match create(rt, part(&name, 0, b.len)) {
+        Err(e) => {
+            trouble(err, b"write ", path, e);
+            None
+        }
+        Ok(file) => above_standard(rt, file, path, err),
     }
-    if fd < 3 {
-        release(fd, path);
+}
+
+// The file, unless it took the place of a standard stream that is not open.
+fn above_standard(rt: &HostRuntime, file: File, path: &[u8], err: i32) -> Option<File> {
+    if file.as_raw_fd() < 3 {
+        release(rt, file, path);
         say(
             err,
             b"regmap: standard input, output and error must be open.\n",
         );
-        return -1;
+        return None;
     }
-    fd
+    Some(file)
+}
+
+fn remove(rt: &HostRuntime, path: &[u8]) -> io::Result<()> {
+    fs::remove_file(rt, named(path)?)
 }
 
 // Gives the file up as it was.
-pub fn release(fd: i32, path: &[u8]) {
-    libc::close(fd);
+pub fn release(rt: &HostRuntime, file: File, path: &[u8]) {
+    drop(file);
     let b = beside(path);
     let name = b.name;
-    os::unlink(part(&name, 0, b.len));
+    let _ = remove(rt, part(&name, 0, b.len));
 }
 
-fn put(fd: i32, bytes: &[u8]) -> bool {
-    if !io::write_all(fd, bytes) {
-        return false;
-    }
-    libc::fsync(fd) == 0
+fn put(file: &mut File, bytes: &[u8]) -> io::Result<()> {
+    file.write_all(bytes)?;
+    file.sync_all()
+}
+
+fn rename(rt: &HostRuntime, from: &[u8], to: &[u8]) -> io::Result<()> {
+    fs::rename(rt, named(from)?, named(to)?)
+}
+
+// Writes all of the bytes to the `.new` and gives it its name.
+fn placed(rt: &HostRuntime, file: &mut File, path: &[u8], bytes: &[u8]) -> io::Result<()> {
+    put(file, bytes)?;
+    let b = beside(path);
+    let name = b.name;
+    rename(rt, part(&name, 0, b.len), path)
 }
 
 // Writes a file that is held, and puts it in its place once it is whole.
-pub fn finish(fd: i32, path: &[u8], bytes: &[u8], err: i32) -> bool {
-    if !put(fd, bytes) {
-        trouble(err, b"write ", path);
-        release(fd, path);
-        return false;
+pub fn finish(rt: &HostRuntime, mut file: File, path: &[u8], bytes: &[u8], err: i32) -> bool {
+    match placed(rt, &mut file, path, bytes) {
+        Err(e) => {
+            trouble(err, b"write ", path, e);
+            release(rt, file, path);
+            false
+        }
+        Ok(()) => true,
     }
-    let b = beside(path);
-    let name = b.name;
-    if os::rename(part(&name, 0, b.len), path) < 0 {
-        trouble(err, b"write ", path);
-        release(fd, path);
-        return false;
-    }
-    libc::close(fd);
-    true
 }
 
-fn head(fd: i32) -> Holds {
+fn head(file: &File) -> Holds {
     let mut two = [0u8; 2];
-    let got = libc::pread(fd, &mut two, 0);
-    let n = io::count(got, &two);
-    kind_of(&two[..n])
+    match file.read_at(&mut two, 0) {
+        Ok(n) => kind_of(&two[..n]),
+        Err(_) => Holds::Nothing,
+    }
+}
+
+fn resize(file: &mut File) -> io::Result<()> {
+    file.sync_all()?;
+    let size = file.seek(SeekFrom::End(0))?;
+    file.set_len(size)
 }
 
 // A regular file can be made as long as it is; anything else refuses one of the two.
-fn is_file(fd: i32) -> bool {
-    if libc::fsync(fd) != 0 {
-        return false;
-    }
-    let size = libc::lseek(fd, 0, libc::SEEK_END);
-    if size < 0 {
-        return false;
-    }
-    libc::ftruncate(fd, size) == 0
+fn is_file(file: &mut File) -> bool {
+    resize(file).is_ok()
 }
 
 // What a file of a kind is called.
@@ -312,25 +353,34 @@ fn kept(path: &[u8], wanted: Holds, err: i32) -> bool {
     false
 }
 
+fn open_update(rt: &HostRuntime, path: &[u8]) -> io::Result<File> {
+    OpenOptions::new()
+        .read(true)
+        .write(true)
+        .open(rt, named(path)?)
+}
+
 // Whether what stands under a name may be replaced: nothing is there, or a regular file that is empty or holds the same kind of bytes. So
 // no input is ever written over, under whatever name.
-fn may_replace(path: &[u8], wanted: Holds, err: i32) -> bool {
-    let fd = os::open_update(path);
-    if fd < 0 {
-        if os::errno() == libc::ENOENT {
-            return true;
+fn may_replace(rt: &HostRuntime, path: &[u8], wanted: Holds, err: i32) -> bool {
+    match open_update(rt, path) {
+        Err(e) => {
+            if e.kind() == ErrorKind::NotFound {
+                return true;
+            }
+            trouble(err, b"write ", path, e);
+            false
         }
-        trouble(err, b"write ", path);
-        return false;
+        Ok(file) => is_ours(file, path, wanted, err),
     }
-    let kind = head(fd);
-    if !is_kind(kind, wanted) {
-        closed(fd);
-        return kept(path, wanted, err);
-    }
-    let file = is_file(fd);
-    closed(fd);
-    if file {
+}
+
+// Whether the open file is a regular file that is empty or holds the same kind of bytes.
+fn is_ours(mut file: File, path: &[u8], wanted: Holds, err: i32) -> bool {
+    let kind = head(&file);
+    let ours = is_kind(kind, wanted) && is_file(&mut file);
+    closed(file);
+    if ours {
         return true;
     }
     kept(path, wanted, err)
@@ -344,18 +394,21 @@ fn is_system(path: &[u8]) -> bool {
     is(part(path, 0, 6), b"/proc/")
 }
 
-fn sent(bytes: &[u8], err: i32) -> bool {
-    if io::write_all(1, bytes) {
-        return true;
+fn sent(rt: &HostRuntime, bytes: &[u8], err: i32) -> bool {
+    let mut output = rt.stdout();
+    match Write::write_all(&mut output, bytes) {
+        Err(e) => {
+            trouble(err, b"write ", b"standard output", e);
+            false
+        }
+        Ok(()) => true,
     }
-    trouble(err, b"write ", b"standard output");
-    false
 }
 
 // Writes a file of this kind; no, where that can't be, and it was said.
-pub fn save_as(path: &[u8], bytes: &[u8], kind: Holds, err: i32) -> bool {
+pub fn save_as(rt: &HostRuntime, path: &[u8], bytes: &[u8], kind: Holds, err: i32) -> bool {
     if is(path, b"-") {
-        return sent(bytes, err);
+        return sent(rt, bytes, err);
     }
     if is_system(path) {
         say3(
@@ -366,29 +419,42 @@ pub fn save_as(path: &[u8], bytes: &[u8], kind: Holds, err: i32) -> bool {
         );
         return false;
     }
-    if !may_replace(path, kind, err) {
+    if !may_replace(rt, path, kind, err) {
         return false;
     }
-    let fd = lock(path, err);
-    if fd < 0 {
-        return false;
+    match lock(rt, path, err) {
+        None => false,
+        Some(file) => finish(rt, file, path, bytes, err),
     }
-    finish(fd, path, bytes, err)
 }
 
 // A store or a witness.
-pub fn save(path: &[u8], bytes: &[u8], store: bool, err: i32) -> bool {
+pub fn save(rt: &HostRuntime, path: &[u8], bytes: &[u8], store: bool, err: i32) -> bool {
     let kind = if store { Holds::Store } else { Holds::Witness };
-    save_as(path, bytes, kind, err)
+    save_as(rt, path, bytes, kind, err)
 }
 
 // ---- what was printed
 
+// Linux's numbers of the reasons for which a write fails.
+const EIO: i32 = 5;
+
+const EBADF: i32 = 9;
+
+const EAGAIN: i32 = 11;
+
+const EFBIG: i32 = 27;
+
+const ENOSPC: i32 = 28;
+
+const EPIPE: i32 = 32;
+
 // Whether something printed was lost: nothing clears errno, so it is that of the last call that failed, and these are of no call but a write.
 pub fn lost(err: i32) -> bool {
-    match os::errno() {
-        libc::ENOSPC | libc::EIO | libc::EFBIG | libc::EBADF | libc::EPIPE | libc::EAGAIN => {
-            trouble(err, b"print", b"");
+    let error = last_error();
+    match error.raw_os_error() {
+        Some(ENOSPC | EIO | EFBIG | EBADF | EPIPE | EAGAIN) => {
+            trouble(err, b"print", b"", error);
             true
         }
         _ => false,

@@ -114,9 +114,9 @@ fn showed(path: &[u8], log: &[u8], err: i32) -> usize {
     DONE
 }
 
-pub fn show(line: &[u8], err: i32) -> usize {
+pub fn show(rt: &HostRuntime, line: &[u8], err: i32) -> usize {
     let mut log = [0u8; 524_288];
-    let Loaded::Whole(n) = load(word(line, 1), &mut log, err) else {
+    let Loaded::Whole(n) = load(rt, word(line, 1), &mut log, err) else {
         return TROUBLE;
     };
     showed(word(line, 1), part(&log, 0, n), err)

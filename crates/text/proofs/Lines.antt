@@ -10,9 +10,8 @@ use lib.Dec.{leb, eqb}
 use types.Run.{OneOf}
 use borrow.Author.Tests.{le-leb, lt-leb, leb-true, leb-false, eq-eqb, ne_eqb, eqb-true, eqb-false}
 use lib.ListN.{length, get_or, set, take, drop, length-drop}
-use lib.Seq.{take_all, take-length, drop-cons, drop-length}
-use Rattle.bytes.specs.Bytes.{index_of, slice}
-use Rattle.text.specs.Words.{within_of, part_of, piece_of, same_bytes, unblank_of, blanked_of, zeros_before, place_of, skip_of, words_of, start_of, rest_of, word_of, has_words, index_from, index_in}
+use lib.Seq.{take_all, drop-cons, drop-length}
+use Rattle.text.specs.Words.{within_of, part_of, piece_of, same_bytes, unblank_of, blanked_of, zeros_before, index_of, index_after, place_of, skip_of, words_of, start_of, rest_of, word_of, has_words, index_from, index_in}
 use Rattle.text.proofs.Splitting.{word_split, ends_by, goes_on}
 
 -- ---- parts
@@ -65,9 +64,25 @@ module _ (s : List ℕ) (from len : ℕ) where
 
 -- ---- places
 
-pub place_found : (s : List ℕ) (from b r : ℕ) → r ≡ from + index_of b (slice from (length s) s) → r ≡ place_of s from b
-unfolding slice
-place_found s from b r h = h ∙ ap (λ (l : List ℕ). from + index_of b (drop from l)) (take-length s)
+module _ (s : List ℕ) (i b : ℕ) where
+  pub find-next : i < length s → (get_or s i 0 ≡ b → ⊥) → place_of s i b ≡ place_of s (i + 1) b
+  unfolding index_of index_after
+  find-next l e =
+      let d : index_of b (drop i s) ≡ suc (index_of b (drop (suc i) s)) = rw (drop-cons s i 0 l, ne_eqb (get_or s i 0) b e) refl in
+      let f : index_of b (drop (i + 1) s) ≡ index_of b (drop (suc i) s) = ap (λ (n : ℕ). index_of b (drop n s)) (add-one i) in
+      omega (arith, d, f)
+
+  pub find-stops : i < length s → get_or s i 0 ≡ b → i ≡ place_of s i b
+  unfolding index_of index_after
+  find-stops l e =
+      let d : index_of b (drop i s) ≡ 0 = rw (drop-cons s i 0 l, eq-eqb (get_or s i 0) b e) refl in
+      omega (arith, d)
+
+  pub find-ends : i ≡ length s → i ≡ place_of s i b
+  unfolding index_of
+  find-ends e =
+      let d : index_of b (drop i s) ≡ 0 = ap (λ (n : ℕ). index_of b (drop n s)) e ∙ ap (index_of b) (drop-length s) in
+      omega (arith, d)
 
 module _ (s : List ℕ) (i : ℕ) where
   pub skip-next : i < length s → get_or s i 0 ≡ 0 → skip_of s i ≡ skip_of s (i + 1)

@@ -2,15 +2,14 @@
 use mathlib.Core.Path.{◌≡◌, refl, sym, ap, ap₂, ◌∙◌}
 use mathlib.Core.Bool.{Bool, true, false, cond}
 use mathlib.Core.List.{List, [], ◌∷◌, ◌++◌, append-nil, append_assoc}
-use Prim.Native.Nat.{ℕ, zero, suc, ◌+◌, ◌-◌, ◌≤◌, ◌<◌}
+use Prim.Native.Nat.{ℕ, zero, suc, ◌-◌, ◌≤◌, ◌<◌}
 use native.Mathlib.Nat.{zero-add, add-zero}
 use native.Mathlib.Numerals.{add-one}
 use native.Mathlib.Omega.{arith}
 use lib.Dec.{eqb}
 use lib.ListN.{length, get_or, take, drop, length-drop}
 use lib.Seq.{drop-drop, get_or-drop}
-use Rattle.bytes.specs.Bytes.{index_of, index_after}
-use Rattle.text.specs.Words.{closed, words_from, words_of, zeros_before, place_of, start_of, rest_of}
+use Rattle.text.specs.Words.{closed, words_from, words_of, zeros_before, index_of, index_after, place_of, start_of, rest_of}
 
 -- ---- zeros in front
 

@@ -1,7 +1,6 @@
 -- Parts of a text, and the words of a line: parted by zero bytes, which stand for blanks.
 use Rattle.std.specs.Prelude.{Bool, true, false, cond, ◌||◌, List, [], ◌∷◌, ◌++◌, map, ℕ, zero, suc, ◌+◌, ◌-◌, leb, eqb, length, get_or, take, drop}
 use Rattle.key_order.specs.Order.{cmp, pick}
-use Rattle.bytes.specs.Bytes.{index_of}
 
 -- ---- parts
 
@@ -35,6 +34,16 @@ blanked_of s = map unblank_of s
 unfoldable pub zeros_before : List ℕ → ℕ
 zeros_before [] = 0
 zeros_before (x ∷ xs) = cond (eqb x 0) (suc (zeros_before xs)) 0
+
+-- one more than n, or 0 where a search is at its end
+unfoldable pub index_after : Bool → ℕ → ℕ
+index_after true n = 0
+index_after false n = suc n
+
+-- how many bytes stand in front of the first b; all of them, where there is none
+unfoldable pub index_of : ℕ → List ℕ → ℕ
+index_of b [] = 0
+index_of b (x ∷ xs) = index_after (eqb x b) (index_of b xs)
 
 -- the first place from one on where b stands, or the end
 abbrev pub place_of : List ℕ → ℕ → ℕ → ℕ

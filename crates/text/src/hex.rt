@@ -8,7 +8,7 @@ use crate::words::{is, part};
 pub const FEW: usize = 65;
 
 // The first `len` bytes are meant. Where `ok` is no, the word was no name or no value.
-#[derive(Drop)]
+#[derive(Clone, Copy)]
 pub struct Few {
     pub ok: bool,
     pub len: usize,
@@ -129,7 +129,7 @@ pub fn name(word: &[u8]) -> Few
 
 // ---- numbers
 
-#[derive(Drop)]
+#[derive(Clone, Copy)]
 pub enum Number {
     Is(u64),
     Bad,

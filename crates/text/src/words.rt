@@ -66,7 +66,14 @@ pub fn find(s: &[u8], from: usize, b: u8) -> usize
     ensures lower_bound { (from ≤ result) × (result ≤ length s.now) }
     ensures value { result ≡ place_of s.now from b }
 {
-    bytes::scan::find(s, from, s.len(), b)
+    let mut i = from;
+    while i < s.len() {
+        if s[i] == b {
+            return i;
+        }
+        i += 1;
+    }
+    i
 }
 
 // The place of the first byte from `from` on that is not zero, or the end.
