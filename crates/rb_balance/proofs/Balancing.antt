@@ -11,7 +11,7 @@ use Rattle.rb_nodes.specs.Heap.{Held, Full, Marked, CanAt, DoesAt}
 use Rattle.rb_nodes.proofs.Heap.{sub-left, sub-right}
 use Rattle.rb_nodes.proofs.Steps.{after, full-turn}
 use Rattle.rb_nodes.proofs.Option.{same, parts}
-use Rattle.rb_nodes.proofs.Colours.{Colour, seen, red-full}
+use Rattle.rb_nodes.proofs.Colours.{Colour, red-full}
 
 -- ---- steps
 

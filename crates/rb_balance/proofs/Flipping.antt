@@ -1,7 +1,7 @@
 -- What `flip_colors` asks of its calls, and what it leaves.
 use mathlib.Core.Path.{◌≡◌, refl, sym, ap, subst, ◌∙◌}
 use mathlib.Core.Bool.{Bool, not}
-use mathlib.Core.Logic.{◌≢◌, ◌⊎◌, inl, inr}
+use mathlib.Core.Logic.{◌≢◌, inl, inr}
 use mathlib.Core.List.{List}
 use mathlib.Core.Option.{some}
 use Prim.Native.Nat.{ℕ, ◌+◌, ◌≤◌}

@@ -11,7 +11,7 @@ use lib.ListN.{length}
 use Rattle.slots.specs.Layout.{HasSlot, Slot, slot, mark_of, node_slot}
 use Rattle.slots.specs.Setters.{with_left, with_right, with_red, set_left, set_right, set_red, Keeps}
 use Rattle.slots.proofs.Writing.{keeps-trans, keeps-more, keeps-has, wrote-left, wrote_right, wrote-red}
-use Rattle.llrb.specs.Tree.{Entry, Tree, nil, node, left, right}
+use Rattle.llrb.specs.Tree.{Entry, Tree, nil, node}
 use Rattle.llrb.specs.Panic.{rotate_left_p, rotate_right_p}
 use Rattle.store.specs.Counts.{is}
 use Rattle.store.specs.Model.{root}
