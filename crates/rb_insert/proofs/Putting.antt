@@ -6,12 +6,9 @@ use mathlib.Core.Option.{Option, none, some}
 use Prim.Native.Nat.{ℕ}
 use native.Mathlib.Omega.{arith}
 use Rattle.key_order.specs.Order.{Key}
-use Rattle.slots.specs.Layout.{slot}
 use Rattle.slots.specs.Setters.{set_red}
 use Rattle.llrb.specs.Tree.{Value, Entry, Tree, nil, node, get, insert_go, insert}
-use Rattle.llrb.specs.Map.{slots}
 use Rattle.store.specs.Counting.{is-self}
-use Rattle.store.specs.Model.{root}
 use Rattle.rb_nodes.specs.Heap.{Held, Full, Marked, nothing, Step}
 use Rattle.rb_nodes.proofs.Steps.{before, painted}
 use Rattle.rb_insert.specs.Inserts.{entry, taken, Fresh, DoesInsert}

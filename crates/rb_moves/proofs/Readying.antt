@@ -110,4 +110,4 @@ pub ready-right-move : (t u : Tree) → is_red (right t) ≡ false → is_red (l
 unfolding ready_right_p
 ready-right-move nil u q z w = absurd (no w)
 ready-right-move (node c e l nil) u q z w = absurd (no w)
-ready-right-move (node c e l (node d x rl rr)) u q z w = rw (q, z) at w
+ready-right-move (node c e l (node d x rl rr)) u q z w = rw q (rw (q, z) at w)

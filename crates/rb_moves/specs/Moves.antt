@@ -1,7 +1,6 @@
 -- The Rust's two moves of delete with their panics: a flip first, then the `if`.
 use Rattle.std.proofs.Math.Option.{Option}
 use Rattle.llrb.specs.Tree.{Tree}
-use Rattle.llrb.specs.Delete.{delete}
 use Rattle.llrb.specs.Panic.{and_then, flip_colors_p, move_red_left₂_p, move_red_right₂_p}
 
 -- the Rust's two moves: a flip first

@@ -10,7 +10,7 @@ use lib.ListN.{length}
 use borrow.Author.Tests.{eqb-true, eqb-false, eq-eqb, ne_eqb}
 use Rattle.slots.specs.declared.Header.{Header}
 use Rattle.slots.specs.Bits.{Bytes}
-use Rattle.slots.specs.Layout.{current, store_length, HasSlot, HeaderFits, header, slot, mark_of, no_mark, free_slot}
+use Rattle.slots.specs.Layout.{current, store_length, HasSlot, HeaderFits, slot, mark_of, no_mark, free_slot}
 use Rattle.slots.specs.Setters.{set_header, clear_slot, Wrote, Headed}
 use Rattle.slots.proofs.Writing.{wrote-free, headed}
 use Rattle.llrb.specs.Tree.{size}

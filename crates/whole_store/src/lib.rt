@@ -101,7 +101,7 @@ fn stored_digest(s: &[u8], i: usize) -> [u8; 32]
     ensures { result ≡ digest_of s.now i }
 {
     let mut d = [0u8; 32];
-    bytes::copy(slots::digest(s, i), &mut d);
+    d.copy_from_slice(slots::digest(s, i));
     d
 }
 

@@ -1,0 +1,15 @@
+use Rattle.llrb.specs.Panic.{move_red_left₂_p}
+use Rattle.rb_moves.proofs.Lending.{flip-first, flip-next, flip-done}
+use Rattle.rb_moves.proofs.move_red_left.Goals as goal
+
+pub flip_colors-requires : goal.flip_colors-requires
+flip_colors-requires c =
+    flip-first move_red_left₂_p c.requires
+
+pub move_red_left_2-requires : goal.move_red_left_2-requires
+move_red_left_2-requires c =
+    flip-next move_red_left₂_p c.flip_colors.ensures c.requires
+
+pub returns : goal.returns
+returns c =
+    flip-done move_red_left₂_p c.flip_colors.ensures c.move_red_left_2.ensures
