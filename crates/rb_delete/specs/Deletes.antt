@@ -6,7 +6,6 @@ use Rattle.llrb.specs.Tree.{Entry, Tree, nil, node, right, balance, get}
 use Rattle.llrb.specs.Delete.{least, moved, delete}
 use Rattle.llrb.specs.Shape.{Lawful}
 use Rattle.llrb.specs.Panic.{delete_min_p, delete_go_p}
-use Rattle.store.specs.Counts.{is}
 use Rattle.rb_nodes.specs.Heap.{Held, Full, Marked, nothing, only, Step, hang_right}
 
 abbrev pub CanMin : List ℕ → ℕ → Type 0
