@@ -2,10 +2,10 @@
 -- Printed by `oracle cases trees`: the Rust's rb_tree, unchanged, in a store whose freed slots are used again.
 use mathlib.Core.Path.{◌≡◌, refl}
 use mathlib.Core.Bool.{true, false}
-use mathlib.Core.List.{List, [], ◌∷◌}
+use mathlib.Core.List.{[], ◌∷◌}
 use Prim.Native.Nat.{ℕ}
-use Rattle.key_order.specs.Order.{Key, cmp, is_prefix_of}
-use Rattle.llrb.specs.Tree.{Value, Entry, Tree, nil, node, size, get, insert_go, insert, modify, balance}
+use Rattle.key_order.specs.Order.{Key, cmp}
+use Rattle.llrb.specs.Tree.{Value, Entry, nil, node, size, get, insert_go, insert, modify, balance}
 use Rattle.llrb.specs.Delete.{ready_left, ready_right, lean_right, ready, delete_min, delete_go, delete}
 use Rattle.llrb.specs.History.{Op, inserting, modifying, deleting, run}
 

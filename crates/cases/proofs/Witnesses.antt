@@ -1,14 +1,13 @@
 -- The definitions compute the witnesses and root digests that the Rust makes on random maps, first not above last.
 -- Printed by `oracle cases witnesses`; a digest is written as the term that it is the hash of.
 use mathlib.Core.Path.{◌≡◌, refl}
-use mathlib.Core.Bool.{true, false}
-use mathlib.Core.List.{List, [], ◌∷◌}
+use mathlib.Core.List.{[], ◌∷◌}
 use Prim.Native.Nat.{ℕ}
 use Rattle.key_order.specs.Order.{Key, cmp, is_prefix_of}
-use Rattle.llrb.specs.Tree.{Value, Entry, Tree, nil, node, size, get, insert_go, insert, modify, balance}
+use Rattle.llrb.specs.Tree.{Value, Entry, Tree, size, get, insert_go, insert, modify, balance}
 use Rattle.llrb.specs.Delete.{ready_left, ready_right, lean_right, ready, delete_min, delete_go, delete}
 use Rattle.llrb.specs.History.{Op, inserting, modifying, deleting, run}
-use Rattle.hash_tree.specs.HashTree.{HashTree, Empty, Fork, Labeled, Leaf, Pruned, empty_hash, fork_hash, labeled_hash, leaf_hash}
+use Rattle.hash_tree.specs.HashTree.{Empty, Fork, Labeled, Leaf, Pruned, empty_hash, fork_hash, labeled_hash, leaf_hash}
 use Rattle.llrb.specs.Digests.{subtree_digest, root_hash}
 use Rattle.witness_trees.specs.Shown.{three_way_fork}
 use Rattle.witness_trees.specs.Witness.{lower_bound, upper_bound, right_prefix_neighbor, full_witness_tree, witness_range_above, witness_range_below, witness_range_between, range_witness, lookup_and_build_witness, as_hash_tree, keys, key_range, value_range, keys_with_prefix, witness}

@@ -8,7 +8,7 @@ use lib.ListN.{length}
 use Rattle.key_order.specs.Order.{cmp, is_prefix_of}
 use Rattle.slots.specs.declared.Header.{Header}
 use Rattle.slots.specs.Bits.{joined, fields, recut}
-use Rattle.slots.specs.Layout.{header, head_at, key_at, value_at, digest_at, place, zeros}
+use Rattle.slots.specs.Layout.{head_at, key_at, value_at, digest_at, place, zeros}
 use Rattle.slots.specs.Setters.{put_room, set_header, set_slot_as, set_digest, with_slots, bytes_of}
 use Rattle.hash_tree.specs.HashTree.{HashTree, Empty, Fork, Labeled, Leaf, Pruned, labeled_hash, leaf_hash}
 use Rattle.hash_tree.specs.Written.{piece, write}
@@ -17,7 +17,6 @@ use Rattle.llrb.specs.Map.{pairs}
 use Rattle.llrb.specs.Delete.{ready_left, ready_right, lean_right, delete_min, delete_go, ready, delete, freed}
 use Rattle.llrb.specs.Digests.{subtree_digest}
 use Rattle.llrb.specs.Path.{subtree_at}
-use Rattle.witness_trees.specs.Reading.{labels}
 use Rattle.witness_trees.specs.Shown.{three_way_fork}
 use Rattle.witness_trees.specs.Witness.{lower_bound, upper_bound, right_prefix_neighbor, full_witness_tree, witness_range_above, witness_range_between, range_witness, lookup_and_build_witness, keys, value_range, keys_with_prefix, witness}
 use Rattle.store.specs.Numbers.{Outcome, done}
@@ -29,7 +28,7 @@ use Rattle.store.specs.Calls.{insert_in, delete_in, of_key, of_range, create_ans
 use Rattle.store.specs.History.{Edit, Insert, Delete, store_after, model_after}
 use Rattle.store.proofs.Running.{store-holds, store-decodes}
 use Rattle.store.proofs.Witnessing.{has_room, no_room}
-use Rattle.examples.specs.Examples.{a, b, c, d, aa, ba, bb, black, red, abc, dcba, prefixes, SameMap, filled, cut, whole, from_b, from_ba, Examples}
+use Rattle.examples.specs.Examples.{a, b, c, d, aa, bb, black, red, abc, dcba, prefixes, SameMap, filled, cut, whole, from_b, from_ba, Examples}
 
 -- the store after a history of n slots holds the model after it
 held : (h : List Edit) → Represents (store_after 4 h) (model_after 4 h)

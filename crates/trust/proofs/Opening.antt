@@ -12,7 +12,7 @@ use Rattle.lookup.specs.declared.Looked.{Looked}
 use Rattle.lookup.specs.declared.Looked.TheVariants as looked
 use Rattle.lookup.specs.Answer.{lookup_answer}
 use Rattle.lookup.specs.Flatten.{flatten}
-use Rattle.lookup.specs.Lookup.{Found, Absent, between, before, after, nothing, leaf, Known, Says, WellFormed}
+use Rattle.lookup.specs.Lookup.{between, before, after, nothing, leaf, Known, Says, WellFormed}
 use Rattle.lookup.proofs.Promises.{says-answered, known-answered}
 
 -- the list M is L with what is hidden opened: each Pruned stands for a stretch, maybe none; labels and Leafs stay

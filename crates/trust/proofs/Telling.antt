@@ -49,6 +49,7 @@ spot k (e ∷ M) = go (cmp k e.key) refl (spot k M)
 has_in : (k : Key) (L : List Entry) → Has k (keys_of L) → (y : Entry) × In y L × (y.key ≡ k)
 has_in k (e ∷ L) it = (e, here, refl)
 has_in k (e ∷ L) (words.more i) = let r = has_in k L i in (r.0, there r.1, r.2)
+has_in k [] x' = elim x' [ ]
 
 below-trans : (j k : Key) (L : List Entry) → Lt j k → Below j L → Below k L
 below-trans j k [] h a = tt
