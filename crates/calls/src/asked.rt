@@ -6,14 +6,14 @@ use crate::words::{is_hex, unhex};
 use text::hex::{Number, decimal};
 use text::words::find;
 
-#[derive(Drop)]
+#[derive(Clone, Copy)]
 pub(crate) struct Span {
     pub(crate) from: usize,
     pub(crate) to: usize,
 }
 
 // The call, its number if it takes one, and where in the line its bytes lie, now that they stand there in place of their hex.
-#[derive(Drop)]
+#[derive(Clone, Copy)]
 pub(crate) struct Asked {
     pub(crate) call: Call,
     pub(crate) number: u64,
@@ -36,7 +36,7 @@ fn unknown() -> Asked {
 }
 
 // Where the bytes lie that a word stood for, now in its place.
-#[derive(Drop)]
+#[derive(Clone, Copy)]
 enum Bytes {
     At(Span),
     Bad,

@@ -3,7 +3,7 @@ use std::io::Read;
 
 // What was read: whether there was a line at all, whether the buffer had room for it, and its length, or 0 for one without room: the
 // empty line too is none that a call has. Then what is left of the chunk.
-#[derive(Drop)]
+#[derive(Clone, Copy)]
 pub(crate) struct Line {
     pub(crate) any: bool,
     pub(crate) fits: bool,
@@ -13,7 +13,7 @@ pub(crate) struct Line {
 }
 
 // One byte more of standard input, or none; then what is left of the chunk.
-#[derive(Drop)]
+#[derive(Clone, Copy)]
 pub(crate) struct Byte {
     pub(crate) any: bool,
     pub(crate) byte: u8,

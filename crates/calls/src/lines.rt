@@ -8,10 +8,11 @@ use crate::reply::{
 };
 use answers::Saved;
 use parts::STATE;
+use text::print::is_unread;
 use text::words::within;
 
 // How many bytes of the store, of the other store and of the output are in use. The two stores are the halves of one buffer.
-#[derive(Drop)]
+#[derive(Clone, Copy)]
 struct Sizes {
     store: usize,
     other: usize,
@@ -352,5 +353,8 @@ pub(crate) fn run(
         at = got.at;
         end = got.end;
         sizes = turn(line, got.len, both, output, state, sizes);
+        if is_unread() {
+            return;
+        }
     }
 }

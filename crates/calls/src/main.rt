@@ -14,7 +14,10 @@ mod names;
 mod reply;
 mod words;
 
-fn main(rt: HostRuntime) {
+use std::process::ExitCode;
+use text::print::{UNREAD, is_unread};
+
+fn main(rt: HostRuntime) -> ExitCode {
     let mut chunk = [0u8; 65_536];
     let mut line = [0u8; 320_000];
     let mut both = [0u8; 307_216];
@@ -28,4 +31,9 @@ fn main(rt: HostRuntime) {
         &mut output,
         &mut state,
     );
+    // A reader that stopped ends it as the system would.
+    if is_unread() {
+        return ExitCode::from(UNREAD);
+    }
+    ExitCode::SUCCESS
 }

@@ -2,7 +2,7 @@
 use crate::words::place;
 
 // Sets the driver's own bytes; answers `ok`.
-#[derive(Drop)]
+#[derive(Clone, Copy)]
 pub(crate) enum Setup {
     Buffer,
     Load,
@@ -11,7 +11,7 @@ pub(crate) enum Setup {
 }
 
 // Changes the store.
-#[derive(Drop)]
+#[derive(Clone, Copy)]
 pub(crate) enum Change {
     Create,
     Insert,
@@ -20,7 +20,7 @@ pub(crate) enum Change {
 }
 
 // A rebuild in parts.
-#[derive(Drop)]
+#[derive(Clone, Copy)]
 pub(crate) enum Feed {
     Begin,
     Part,
@@ -28,7 +28,7 @@ pub(crate) enum Feed {
 }
 
 // Reads the store, or no store at all.
-#[derive(Drop)]
+#[derive(Clone, Copy)]
 pub(crate) enum Ask {
     Get,
     First,
@@ -44,7 +44,7 @@ pub(crate) enum Ask {
 }
 
 // Writes into the output: a witness of the store, or of two witnesses, or the other form of one.
-#[derive(Drop)]
+#[derive(Clone, Copy)]
 pub(crate) enum Show {
     Full,
     Keys,
@@ -58,13 +58,13 @@ pub(crate) enum Show {
 }
 
 // About the store and the other.
-#[derive(Drop)]
+#[derive(Clone, Copy)]
 pub(crate) enum Two {
     Swap,
     Diff,
 }
 
-#[derive(Drop)]
+#[derive(Clone, Copy)]
 pub(crate) enum Call {
     Setup(Setup),
     Change(Change),

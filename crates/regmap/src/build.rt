@@ -76,7 +76,7 @@ fn take(line: &[u8], store: &mut [u8]) -> Fault
 }
 
 // What stopped the reading of a map, and in which line; Taken if nothing did.
-#[derive(Drop)]
+#[derive(Clone, Copy)]
 struct Stop {
     fault: Fault,
     line: usize,

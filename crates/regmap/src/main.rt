@@ -13,7 +13,8 @@ ghost use Rattle.std.specs.Prelude.{◌≤◌, length};
 
 use regmap_words::says::{DONE, OUT, REFUSED, TROUBLE};
 use std::env::{Env, FillError};
-use text::print::say;
+use std::process::ExitCode;
+use text::print::{UNREAD, is_unread, say};
 use text::words::{is, part, rest, word};
 
 fn put(line: &mut [u8], at: usize, b: u8) {
@@ -101,18 +102,33 @@ fn say_end(status: usize) {
     }
 }
 
-fn main(rt: HostRuntime) {
+// Its own status is 0; only a reader that stopped ends it as the system would.
+fn ended() -> ExitCode {
+    if is_unread() {
+        return ExitCode::from(UNREAD);
+    }
+    ExitCode::SUCCESS
+}
+
+fn main(rt: HostRuntime) -> ExitCode {
     let mut line = [0u8; 16_384];
     let n = arguments(&rt, &mut line);
     if n == 16_384 {
         say(2, b"regmap: the words are too long: 16 KiB are read.\n");
         text::print::say_number(3, TROUBLE);
-        return say_end(TROUBLE);
+        say_end(TROUBLE);
+        return ended();
     }
     if is_watched(part(&line, 0, n)) {
         let status = script::done(&rt, rest(part(&line, 0, n), 1));
-        return text::print::say_number(3, status);
+        if !is_unread() {
+            text::print::say_number(3, status);
+        }
+        return ended();
     }
     let status = script::done(&rt, part(&line, 0, n));
-    say_end(status);
+    if !is_unread() {
+        say_end(status);
+    }
+    ended()
 }

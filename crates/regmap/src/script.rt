@@ -2,7 +2,7 @@
 use crate::commands::command;
 use regmap_files::{Loaded, load, lost};
 use regmap_words::says::{DONE, OUT, TROUBLE};
-use text::print::{say, say_number};
+use text::print::{UNREAD, is_unread, say, say_number};
 use text::words::{blanked, find, has, is, part, rest, within, word};
 
 const ERR: i32 = 2;
@@ -34,8 +34,11 @@ fn step(rt: &HostRuntime, line: &[u8]) -> usize {
     command(rt, line, OUT)
 }
 
-// The status, or trouble if something that was printed is lost.
+// The status, or trouble if something that was printed is lost. A reader that stopped ends the program.
 pub(crate) fn seen(status: usize) -> usize {
+    if is_unread() {
+        return UNREAD as usize;
+    }
     if lost(ERR) {
         return TROUBLE;
     }
@@ -53,6 +56,9 @@ fn say_line(line: &[u8]) {
 
 fn turn(rt: &HostRuntime, line: &mut [u8]) -> usize {
     say_line(line);
+    if is_unread() {
+        return UNREAD as usize;
+    }
     blanked(line);
     if is_empty(line) {
         return DONE;

@@ -163,7 +163,7 @@ pub(crate) fn say_store(to: i32, store: &[u8]) {
     say_with_hex(to, b", root ", &digest, b"\n");
 }
 
-#[derive(Drop)]
+#[derive(Clone, Copy)]
 enum Outcome {
     Done,
     Refused(usize),

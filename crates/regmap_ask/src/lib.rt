@@ -11,7 +11,7 @@ use witness_reader::{place_after, record_from};
 const OUT: i32 = 1;
 
 // What an answer comes to: known, or not to be told from this witness, or a number of lookup's.
-#[derive(Drop)]
+#[derive(Clone, Copy)]
 pub enum Told {
     Known,
     Silent,
@@ -21,7 +21,7 @@ pub enum Told {
 // ---- the names beside the one that is asked for
 
 // Where the last name below and the first above lie, if there are such.
-#[derive(Drop)]
+#[derive(Clone, Copy)]
 struct Beside {
     low: bool,
     low_from: usize,

@@ -16,7 +16,7 @@ const KEPT: usize = 524_288;
 const MOST: usize = 0x1000_0000_0000_0000;
 
 // After how many bytes it ended; or the offset of the first byte that makes it no witness; or a read failed, and that was said.
-#[derive(Drop)]
+#[derive(Clone, Copy)]
 enum Came {
     Ended(usize),
     Bad(usize),

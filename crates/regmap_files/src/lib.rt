@@ -43,7 +43,7 @@ pub fn trouble(err: i32, what: &[u8], path: &[u8], error: io::Error) {
 // ---- reading
 
 // How many bytes the file has, all of them at the front of the buffer; or nothing, and the reason was said.
-#[derive(Drop)]
+#[derive(Clone, Copy)]
 pub enum Loaded {
     Whole(usize),
     No,
@@ -184,7 +184,7 @@ pub fn kind_of(bytes: &[u8]) -> Holds {
 // ---- writing
 
 // The path with `.new` after it: the name under which a file is written, and which holds it while it is changed.
-#[derive(Drop)]
+#[derive(Clone, Copy)]
 struct NewName {
     len: usize,
     name: [u8; 4096],
@@ -394,11 +394,14 @@ fn is_system(path: &[u8]) -> bool {
     is(part(path, 0, 6), b"/proc/")
 }
 
+// One that nobody reads any more is not said: it ends the program (`text::print::is_unread`).
 fn sent(rt: &HostRuntime, bytes: &[u8], err: i32) -> bool {
     let mut output = rt.stdout();
     match Write::write_all(&mut output, bytes) {
         Err(e) => {
-            trouble(err, b"write ", b"standard output", e);
+            if e.kind() != ErrorKind::BrokenPipe {
+                trouble(err, b"write ", b"standard output", e);
+            }
             false
         }
         Ok(()) => true,

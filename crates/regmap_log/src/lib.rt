@@ -44,7 +44,7 @@ fn say_wrong(err: i32, fault: Fault) {
 // ---- the whole log
 
 // How many records could be read, and the place after them: the log's end, or the first that is malformed.
-#[derive(Drop)]
+#[derive(Clone, Copy)]
 pub struct Reading {
     pub records: usize,
     pub at: usize,

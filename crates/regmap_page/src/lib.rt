@@ -69,7 +69,7 @@ fn say_value(w: &[u8], at: usize) {
 // ---- the list
 
 // The kind of the last name or hidden part, 0 if there was none, and the kind of the record before.
-#[derive(Drop)]
+#[derive(Clone, Copy)]
 struct Last {
     item: usize,
     before: usize,
@@ -216,7 +216,7 @@ fn draw_item(w: &[u8], at: usize, kind: usize, y: usize) {
 }
 
 // A tree that was drawn: the place after it, the rows that are taken, its height, and the kind of its last item.
-#[derive(Drop)]
+#[derive(Clone, Copy)]
 struct Drawn {
     next: usize,
     row: usize,

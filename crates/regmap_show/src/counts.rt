@@ -7,7 +7,7 @@ use witness_reader::{place_after, record_from};
 
 // Labels; those of them with a value; hidden parts, and those of them that lie between two labels; hidden parts since the last label;
 // and the kind of the record before.
-#[derive(Drop)]
+#[derive(Clone, Copy)]
 pub struct Counts {
     pub labels: usize,
     pub values: usize,

@@ -101,7 +101,7 @@ fn tree(w: &[u8], at: usize, depth: usize, parent: usize) -> usize {
 // ---- the line of names and hidden parts
 
 // The place and kind of the last name or hidden part, if there was one, and the kind of the record before.
-#[derive(Drop)]
+#[derive(Clone, Copy)]
 struct Last {
     any: bool,
     at: usize,

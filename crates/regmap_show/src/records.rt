@@ -60,7 +60,7 @@ fn say_bytes(kind: usize, bytes: &[u8], labeled: bool) {
 }
 
 // A record's place, depth and kind, and whether it stands under a label.
-#[derive(Drop)]
+#[derive(Clone, Copy)]
 struct Seen {
     at: usize,
     depth: usize,

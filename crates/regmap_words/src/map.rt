@@ -8,7 +8,7 @@ use text::print::{say, say_hex, say_number, say3};
 use text::words::{find, has, is, part, word};
 
 // What is wrong with a line, or with the store it goes to.
-#[derive(Drop)]
+#[derive(Clone, Copy)]
 pub enum Fault {
     Taken,
     Empty,
@@ -24,7 +24,7 @@ pub enum Fault {
     Capacity,
 }
 
-#[derive(Drop)]
+#[derive(Clone, Copy)]
 pub struct Register {
     pub fault: Fault,
     pub name: Few,

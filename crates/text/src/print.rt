@@ -3,10 +3,26 @@ ghost use Rattle.std.specs.Prelude.{◌≡◌};
 ghost use Rattle.text.specs.Hex.{all_printable, glyph_of, is_plain};
 
 use crate::words::{is, part};
+use std_io::io::last_error;
 
 pub fn say(to: i32, s: &[u8]) {
     io::write_all(to, s);
 }
+
+// Linux's number for a write that nobody reads any more.
+const EPIPE: i32 = 32;
+
+// Whether the last call that failed was such a write. The system's signal for it ended a program; std's start keeps that signal away, so a
+// program asks, and ends by itself.
+pub fn is_unread() -> bool {
+    match last_error().raw_os_error() {
+        Some(EPIPE) => true,
+        _ => false,
+    }
+}
+
+// The exit status that a shell gives a program which that signal ended.
+pub const UNREAD: u8 = 141;
 
 // Three texts, one after the other.
 pub fn say3(to: i32, a: &[u8], b: &[u8], c: &[u8]) {
