@@ -1,14 +1,12 @@
 -- Request Q-6: on any sorted tree no call joins three Pruned parts, and none meets a key that lies below its low and above its high bound;
 -- of a range this asks for found bounds in order, which first not above last gives, and a prefix always. So both arms are left out here.
 -- witness_trees/proofs/Never has it of the Rust's own functions: whatever stands in the place of both arms, each call gives the same.
-use mathlib.Core.Path.{◌≡◌}
 use mathlib.Core.Logic.{inl}
-use mathlib.Core.Bool.{Bool}
 use mathlib.Core.Option.{Option, none, some}
 use Prim.Native.Nat.{ℕ}
-use Rattle.key_order.specs.Order.{Key, cmp}
+use Rattle.key_order.specs.Order.{Key}
 use Rattle.key_order.proofs.Laws.{cmp-trans, gt-lt}
-use Rattle.llrb.specs.Tree.{Entry, Tree, node, entries}
+use Rattle.llrb.specs.Tree.{Tree, node, entries}
 use Rattle.llrb.specs.Sorted.{Sorted, Mem}
 use Rattle.witness_trees.specs.Witness.{Form, keys_only, values, KeyBound, lower_bound, upper_bound, right_prefix_neighbor}
 use Rattle.witness_trees.specs.Rules.{Le, InOrder}
@@ -17,13 +15,11 @@ use Rattle.witness_trees.proofs.Lists.{lt-irr}
 use Rattle.witness_trees.proofs.Calls.{Present, low-present, high-present, past-present, bounds-in-order, prefix-in-order}
 use Rattle.witness_walks.specs.declared.Walk.{Walk}
 use Rattle.witness_walks.specs.declared.Walk.TheVariants.{Full, Above, Below, Between, Lookup}
-use Rattle.witness_walks.specs.declared.Part.{Part}
-use Rattle.witness_walks.specs.declared.Part.TheVariants.{Walked}
-use Rattle.witness_walks.specs.Arms.{slot_of, arms_at}
+use Rattle.witness_walks.specs.Arms.{slot_of}
 use Rattle.witness_walks.specs.Bounds.{range_walk}
 use Rattle.witness_walks.specs.Walked.{showing}
 use Rattle.witness_walks.specs.Met.{Meets, here, on-left, on-right, Outside, Never}
-use Rattle.witness_walks.proofs.Reached.{Reached, ReachedPart, goes, not_three}
+use Rattle.witness_walks.proofs.Reached.{Reached, goes, not_three}
 use Rattle.witness_walks.proofs.Walking.{PlacedEnd}
 
 -- ---- what holds where a walk starts holds where it comes to

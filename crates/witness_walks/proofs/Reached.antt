@@ -196,8 +196,10 @@ walked-into K w walk (node c e l r) h = inr (entered K w (node c e l r) (Walked 
 -- EACH SIDE IS OF THE KIND THAT IS KNOWN OF IT BEFOREHAND
 pub part-kind : (K : ℕ → Key) (w : Form) (t : Tree) (p : Part) → ReachedPart K p t → IsKind (kind_of_part (is_nil t) p) (part_tree K (showing w) t p)
 unfolding part_tree
+part-kind K w nil Nothing h = elim h [ ]
 part-kind K w nil Hidden h = record { empty = refl; pruned = refl }
 part-kind K w nil (Walked walk) h = record { empty = refl; pruned = refl }
+part-kind K w (node c e l r) Nothing h = elim h [ ]
 part-kind K w (node c e l r) Hidden h = record { empty = refl; pruned = refl }
 part-kind K w (node c e l r) (Walked walk) h = labelled-other _ (entered K w (node c e l r) (Walked walk) h tt)
 
@@ -206,6 +208,7 @@ pub pruned-part : (K : ℕ → Key) (w : Form) (t : Tree) (p : Part) → Reached
     → digest (part_tree K (showing w) t p) ≡ subtree_digest t
 unfolding part_tree
 pruned-part K w nil p h q = absurd (true≢false (sym q))
+pruned-part K w (node c e l r) Nothing h q = elim h [ ]
 pruned-part K w (node c e l r) Hidden h q = refl
 pruned-part K w (node c e l r) (Walked walk) h q = absurd (true≢false (sym q ∙ (part-kind K w (node c e l r) (Walked walk) h).pruned))
 

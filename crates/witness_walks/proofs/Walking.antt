@@ -11,7 +11,6 @@ use Rattle.llrb.specs.Tree.{Tree, nil, node, entries}
 use Rattle.llrb.specs.Sorted.{Sorted, Mem}
 use Rattle.llrb.proofs.Lists.{mem-left, mem-right}
 use Rattle.witness_trees.specs.Shown.{three_way_fork}
-use Rattle.witness_trees.specs.Shown as shown
 use Rattle.witness_trees.specs.Witness.{Form, keys_only, values, seen, KeyBound, Exact, Neighbor, at, pruned_tree, ends, both, last_arm, full_witness_tree, witness_range_above, witness_range_below, witness_range_between, range_witness, lookup_and_build_witness}
 use Rattle.witness_trees.specs.Rules.{Le, InOrder}
 use Rattle.witness_trees.proofs.Lists.{lt-le, sorted-l, sorted-r}

@@ -24,8 +24,10 @@ nothing-bytes K f (node c e l r) = refl
 
 pub part_bytes_lem : (K : ℕ → Key) (w : Form) (t : Tree) (p : Part) → ReachedPart K p t → part_bytes K (showing w) t p ≡ write (part_tree K (showing w) t p)
 unfolding part_bytes part_tree
+part_bytes_lem K w nil Nothing h = elim h [ ]
 part_bytes_lem K w nil Hidden h = refl
 part_bytes_lem K w nil (Walked walk) h = refl
+part_bytes_lem K w (node c e l r) Nothing h = elim h [ ]
 part_bytes_lem K w (node c e l r) Hidden h = refl
 part_bytes_lem K w (node c e l r) (Walked walk) h =
     on (goes K w walk c e l r h) (part_bytes_lem K w l) (part_bytes_lem K w r)
