@@ -96,7 +96,7 @@ const ABSENT: usize = 2;
 const UNKNOWN: usize = 3;
 
 // What a witness says of a key, in numbers.
-#[derive(Drop)]
+#[derive(Clone, Copy)]
 pub struct Seen {
     pub result: usize,
     pub at: usize,
@@ -104,7 +104,7 @@ pub struct Seen {
 }
 
 fn result_alone(res: usize) -> Seen
-    ensures* { λ r. ⌜ r ≡ record { result = res; at = 0; length = 0 } ⌝ }
+    ensures { result ≡ record { result = res; at = 0; length = 0 } }
 {
     Seen {
         result: res,

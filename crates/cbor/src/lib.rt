@@ -34,7 +34,7 @@ pub enum Way {
 }
 
 // A record: its kind, and where in the bytes its own ones stand, all of them there.
-#[derive(Drop)]
+#[derive(Clone, Copy)]
 pub enum Item {
     Whole {
         kind: usize,
@@ -46,7 +46,7 @@ pub enum Item {
 
 // A tree that may be exchanged: the place after it, and the room that its other form leaves: one more than that, 0 if it is short. A number goes
 // through calls in a register.
-#[derive(Drop)]
+#[derive(Clone, Copy)]
 pub struct Met {
     pub ok: bool,
     pub next: usize,

@@ -62,7 +62,7 @@ pub const LEAF: usize = 3;
 pub const PRUNED: usize = 4;
 
 // A record's head: its kind, and how many bytes of its own follow, all of them there.
-#[derive(Drop)]
+#[derive(Clone, Copy)]
 pub enum Record {
     Whole { kind: usize, len: usize },
     Malformed,
@@ -140,7 +140,7 @@ pub fn next_at(s: &[u8], at: usize) -> usize
 }
 
 // What rebuilding one tree finds: its digest and the place after it, or no tree.
-#[derive(Drop)]
+#[derive(Clone, Copy)]
 pub struct Step {
     pub ok: bool,
     pub next: usize,
@@ -224,7 +224,7 @@ fn single(s: &[u8], start: usize, end: usize, kind: usize) -> Step
 }
 
 // A place in the bytes, or none.
-#[derive(Drop)]
+#[derive(Clone, Copy)]
 pub enum Place {
     At(usize),
     Nothing,
@@ -286,7 +286,7 @@ pub fn rebuild_at(s: &[u8], at: usize, depth: usize) -> Step
 }
 
 // The answer of `rebuild`, as document 01 numbers it: 0 and the digest, or 9 and zeros.
-#[derive(Drop)]
+#[derive(Clone, Copy)]
 pub struct Rebuilt {
     pub number: usize,
     pub digest: [u8; 32],
