@@ -1,8 +1,8 @@
 -- From the bytes that were put to what the calls answer on a sound store.
-use Prim.Native.Nat.{ℕ, ◌+◌, ◌≤◌, ◌<◌}
+use Prim.Native.Nat.{ℕ, ◌≤◌, ◌<◌}
 use mathlib.Core.Path.{◌≡◌, refl, sym, ap, subst, ◌∙◌}
 use mathlib.Core.Bool.{Bool, true, false, ◌&&◌}
-use mathlib.Core.List.{List, ◌++◌}
+use mathlib.Core.List.{List}
 use mathlib.Core.Option.{Option, none, some}
 use native.Mathlib.Omega.{arith}
 use borrow.Author.Tests.{le-ltb, lt-ltb}
@@ -14,7 +14,7 @@ use Rattle.key_order.specs.Order.{Key, cmp, pick}
 use Rattle.key_order.proofs.Laws.{lt-gt, cmp-eq}
 use Rattle.hash_tree.specs.HashTree.{HashTree}
 use Rattle.hash_tree.specs.Written.{write}
-use Rattle.slots.specs.Layout.{current, header, slot}
+use Rattle.slots.specs.Layout.{current, header}
 use Rattle.llrb.specs.Tree.{Entry, Tree, nil, node, entries, get}
 use Rattle.llrb.specs.Sorted.{Sorted, Mem}
 use Rattle.llrb.proofs.Get.{get-find, find-some, find_none}
@@ -26,7 +26,7 @@ use Rattle.store.specs.Calls.{reversed, of_key, of_range, witnessed, as_hash_tre
 use Rattle.store.proofs.Decoding.{on-sound}
 use Rattle.store.proofs.Seats.{marks-digests}
 use Rattle.witness_trees.specs.Shown.{three_way_fork}
-use Rattle.witness_trees.specs.Witness.{Form, keys_only, values, KeyBound, Exact, Neighbor, at, lower_bound, upper_bound, right_prefix_neighbor, last_arm, full_witness_tree, range_witness, lookup_and_build_witness, or_tree, as_hash_tree, keys, key_range, value_range, keys_with_prefix, witness}
+use Rattle.witness_trees.specs.Witness.{Form, keys_only, values, KeyBound, Exact, Neighbor, lower_bound, upper_bound, right_prefix_neighbor, last_arm, full_witness_tree, range_witness, lookup_and_build_witness, or_tree, as_hash_tree, keys, key_range, value_range, keys_with_prefix, witness}
 use Rattle.witness_trees.specs.Rules.{InOrder, crossed}
 use Rattle.witness_trees.proofs.Bounds.{lower-is, upper_is, past_is}
 use Rattle.witness_trees.proofs.Lists.{mem-in, lt-irr}

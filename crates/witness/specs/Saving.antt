@@ -1,8 +1,6 @@
 -- What the calls answer: the number and the length beside the output's bytes at the end, as crate store has it.
-use Rattle.std.specs.Prelude.{◌≡◌, Bool, false, cond, List, ℕ, ltb, length}
+use Rattle.std.specs.Prelude.{◌≡◌, Bool, false, List, ℕ}
 use Rattle.llrb.specs.Tree.{Tree}
-use Rattle.store.specs.Numbers.{NoRoom, refused, done}
-use Rattle.store.specs.Answers.{Written, written}
 use Rattle.witness_trees.specs.Rules.{below}
 use Rattle.search.specs.Search.{EntryAt}
 use Rattle.search.specs.declared.Bound.{Bound}
