@@ -8,8 +8,8 @@ use native.Mathlib.Omega.{arith}
 use lib.ListN.{length, length-take, take, drop}
 use Rattle.key_order.specs.Order.{Key}
 use Rattle.llrb.specs.Tree.{Value}
-use Rattle.store.specs.Calls.{delete_answer, key_range_answer, value_range_answer}
-use Rattle.timed.specs.Rows.{Exactly, Ran, Told, changed, changed_rows, counted, counted_rows, output, output_rows}
+use Rattle.store.specs.Calls.{delete_answer, value_range_answer}
+use Rattle.timed.specs.Rows.{Ran, Told, changed, changed_rows, counted, counted_rows, output, output_rows}
 
 -- ---- the part of a table that a slice takes
 

@@ -1,7 +1,6 @@
 use Rattle.judge.proofs.Deciding.{decides-no, decides-yes}
 use Rattle.store.specs.Calls.{as_hash_tree_answer}
 use Rattle.register_map.proofs.Witnessing.{witness-unsound}
-use borrow.Author.Rules.{rules}
 use Rattle.register_map.proofs.as_hash_tree.Goals as goal
 
 pub returns-then-not-judge : goal.returns-then-not-judge

@@ -1,6 +1,5 @@
 use Rattle.judge.proofs.Deciding.{decides-no, decides-yes}
 use Rattle.whole_store.proofs.Answering.{count-refused}
-use borrow.Author.Rules.{rules}
 use Rattle.register_map.proofs.count.Goals as goal
 
 pub returns-then-not-judge : goal.returns-then-not-judge

@@ -1,6 +1,5 @@
 use Rattle.judge.proofs.Deciding.{decides-no, decides-yes}
 use Rattle.register_map.proofs.Differing.{old-refused, new-refused}
-use borrow.Author.Rules.{rules}
 use Rattle.register_map.proofs.difference.Goals as goal
 
 pub returns-then-not-judge : goal.returns-then-not-judge

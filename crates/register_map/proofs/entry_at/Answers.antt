@@ -1,6 +1,5 @@
 use mathlib.Core.Path.{sym, ap, ◌∙◌}
 use Rattle.search.specs.Search.{answer_of}
-use borrow.Author.Rules.{rules}
 use Rattle.register_map.proofs.entry_at.Goals as goal
 
 pub returns-in_default : goal.returns-in_default

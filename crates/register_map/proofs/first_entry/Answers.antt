@@ -1,7 +1,6 @@
 use mathlib.Core.Path.{◌∙◌}
 use Rattle.judge.proofs.Deciding.{decides-no, decides-yes}
 use Rattle.register_map.proofs.Refusing.{first-unsound}
-use borrow.Author.Rules.{rules}
 use Rattle.register_map.proofs.first_entry.Goals as goal
 
 pub returns-then-not-judge : goal.returns-then-not-judge

@@ -1,7 +1,6 @@
 use native.Mathlib.Omega.{arith}
 use Rattle.judge.proofs.Deciding.{decides-no, decides-yes}
 use Rattle.register_map.proofs.Changing.{insert-unsound, insert-long, insert-long-value, insert-after}
-use borrow.Author.Rules.{rules}
 use Rattle.register_map.proofs.insert.Goals as goal
 
 pub returns-then-not-judge : goal.returns-then-not-judge

@@ -1,6 +1,5 @@
 use Rattle.judge.proofs.Deciding.{decides-no, decides-yes}
 use Rattle.whole_store.proofs.Answering.{empty-refused}
-use borrow.Author.Rules.{rules}
 use Rattle.register_map.proofs.is_empty.Goals as goal
 
 pub returns-then-not-judge : goal.returns-then-not-judge

@@ -1,7 +1,6 @@
 use Rattle.judge.proofs.Deciding.{decides-no, decides-yes}
 use Rattle.store.specs.Calls.{keys_answer}
 use Rattle.register_map.proofs.Witnessing.{witness-unsound}
-use borrow.Author.Rules.{rules}
 use Rattle.register_map.proofs.keys.Goals as goal
 
 pub returns-then-not-judge : goal.returns-then-not-judge

@@ -1,7 +1,6 @@
 use Rattle.judge.proofs.Deciding.{decides-no, decides-yes}
 use Rattle.store.specs.Calls.{keys_with_prefix_answer}
 use Rattle.register_map.proofs.Witnessing.{witness-unsound, witness-long}
-use borrow.Author.Rules.{rules}
 use Rattle.register_map.proofs.keys_with_prefix.Goals as goal
 
 pub returns-then-not-judge : goal.returns-then-not-judge

@@ -1,7 +1,6 @@
 use native.Mathlib.Omega.{arith}
 use Rattle.judge.proofs.Deciding.{decides-no, decides-yes}
 use Rattle.register_map.proofs.Changing.{modify-unsound, modify-long, modify-long-value, modify-after}
-use borrow.Author.Rules.{rules}
 use Rattle.register_map.proofs.modify.Goals as goal
 
 pub returns-then-not-judge : goal.returns-then-not-judge

@@ -1,7 +1,6 @@
 use mathlib.Core.Path.{sym}
 use Rattle.judge.proofs.Deciding.{decides-no, decides-yes}
 use Rattle.store.proofs.Replaying.{replay-unsound}
-use borrow.Author.Rules.{rules}
 use Rattle.register_map.proofs.replay.Goals as goal
 
 pub returns-then-not-judge : goal.returns-then-not-judge

@@ -1,6 +1,5 @@
 use Rattle.judge.proofs.Deciding.{decides-no, decides-yes}
 use Rattle.whole_store.proofs.Answering.{root-refused}
-use borrow.Author.Rules.{rules}
 use Rattle.register_map.proofs.root_hash.Goals as goal
 
 pub returns-then-not-judge : goal.returns-then-not-judge

@@ -1,7 +1,6 @@
 use Rattle.judge.proofs.Deciding.{decides-no, decides-yes}
 use Rattle.store.specs.Calls.{value_range_answer}
 use Rattle.register_map.proofs.Witnessing.{witness-unsound, first-long, last-long}
-use borrow.Author.Rules.{rules}
 use Rattle.register_map.proofs.value_range.Goals as goal
 
 pub returns-then-not-judge : goal.returns-then-not-judge
