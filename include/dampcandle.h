@@ -16,7 +16,7 @@
  * A store is 8 + 150 x capacity bytes (DAMPCANDLE_STORE_LENGTH), with room for capacity entries. It holds no pointers: it may be copied,
  * kept in a file and lent at another place. Every call judges it anew, all of it, and answers 1 unless it is sound.
  *
- * Stack, measured on x86-64 over a store of 1,024 entries with the longest keys and values (scripts/c-stack.sh): create 8 bytes, hash 1,100;
+ * Stack, measured on x86-64 over a store of 1,024 entries with the longest keys and values (scripts/c-stack.sh): create 16 bytes, hash 1,300;
  * is_empty, count, root_hash, get, first_entry, next_entry, insert, modify, delete and replay up to 6,700; the witness calls up to 8,300;
  * rebuild 9,000 for a store's own witness, and up to 27,000 for bytes that are nested 64 records deep; write_cbor and read_cbor 2,000 and up to
  * 9,500. Nothing is allocated.
