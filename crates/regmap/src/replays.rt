@@ -14,14 +14,7 @@ fn refused(line: &[u8], store: &[u8], log: &[u8], number: usize, err: i32) -> us
     refuse_on(err, line, store, word(line, 1), number)
 }
 
-fn ran(
-    rt: &HostRuntime,
-    line: &[u8],
-    file: File,
-    store: &mut [u8],
-    log: &[u8],
-    err: i32,
-) -> usize {
+fn ran(rt: &HostRuntime, line: &[u8], file: File, store: &mut [u8], log: &[u8], err: i32) -> usize {
     let r = register_map::replay(store, log);
     if r.number != 0 {
         release(rt, file, word(line, 1));

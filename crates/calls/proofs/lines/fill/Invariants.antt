@@ -1,0 +1,10 @@
+use mathlib.Core.Path.{◌≡◌}
+use Prim.Native.Nat.{◌-◌}
+use lib.ListN.{length}
+use Rattle.calls.proofs.lines.fill.Given as goal
+
+abbrev pub invariant-loop-i : goal.invariant-loop-i
+invariant-loop-i l = length l.s ≡ length l.initial.s
+
+abbrev pub decreases-loop-i : goal.decreases-loop-i
+decreases-loop-i l = length l.s - l.i

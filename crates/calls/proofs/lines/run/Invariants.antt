@@ -1,0 +1,10 @@
+use mathlib.Core.Path.{◌≡◌}
+use lib.ListN.{length}
+use Rattle.calls.proofs.lines.run.Given as goal
+
+abbrev pub invariant-loop-turns : goal.invariant-loop-turns
+invariant-loop-turns l =
+    (length l.chunk ≡ length l.initial.chunk) × (length l.line ≡ length l.initial.line) × (length l.both ≡ length l.initial.both) × (length l.output ≡ length l.initial.output)
+
+abbrev pub decreases-loop-turns : goal.decreases-loop-turns
+decreases-loop-turns l = l.turns
