@@ -17,7 +17,7 @@ use regmap_words::kinds::{digest_ok, has_digest, is_json};
 use regmap_words::map::register_on;
 use regmap_words::says::{DONE, OUT, REFUSED, TROUBLE, refuse};
 use text::hex;
-use text::print::{say, say_number, say_with_hex, say3};
+use text::print::{UNREAD, is_unread, say, say_number, say_with_hex, say3};
 use text::words::{blanked, find, is, part, word};
 
 // ---- checking
@@ -306,6 +306,9 @@ fn check_lines(rt: &HostRuntime, list: &[u8], err: i32) -> usize {
     while at < list.len() {
         let end = find(list, at, b'\n');
         let status = check_line(rt, &list[at..end], err);
+        if is_unread() {
+            return UNREAD as usize;
+        }
         if worst < status {
             worst = status;
         }

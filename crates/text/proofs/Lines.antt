@@ -10,7 +10,7 @@ use lib.Dec.{leb, eqb}
 use types.Run.{OneOf}
 use borrow.Author.Tests.{le-leb, lt-leb, leb-true, leb-false, eq-eqb, ne_eqb, eqb-true, eqb-false}
 use lib.ListN.{length, get_or, set, take, drop, length-drop}
-use lib.Seq.{take_all, drop-cons, drop-length}
+use lib.Seq.{take_all, take-length, drop-cons, drop-length}
 use Rattle.text.specs.Words.{within_of, part_of, piece_of, same_bytes, unblank_of, blanked_of, zeros_before, index_of, index_after, place_of, skip_of, words_of, start_of, rest_of, word_of, has_words, index_from, index_in}
 use Rattle.text.proofs.Splitting.{word_split, ends_by, goes_on}
 
@@ -63,6 +63,9 @@ module _ (s : List ℕ) (from len : ℕ) where
   piece-none p = let l : length s < from + len = omega arith in sym (rw (lt-leb (from + len) (length s) l) refl)
 
 -- ---- places
+
+pub place_found : (s : List ℕ) (from b r : ℕ) → r ≡ from + index_of b (drop from (take (length s) s)) → r ≡ place_of s from b
+place_found s from b r h = h ∙ ap (λ (l : List ℕ). from + index_of b (drop from l)) (take-length s)
 
 module _ (s : List ℕ) (i b : ℕ) where
   pub find-next : i < length s → (get_or s i 0 ≡ b → ⊥) → place_of s i b ≡ place_of s (i + 1) b
