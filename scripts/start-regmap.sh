@@ -31,7 +31,7 @@ if [ -n "$out" ] && [ "$out" != - ] && [ -e "$out" ]; then
     fi
 fi
 
-# A program has no exit status of its own: it writes one digit to descriptor 3. Ended by a reader that stopped, it writes none.
+# The program ends with 0, and writes its status, one digit, to descriptor 3. Ended by a reader that stopped, it writes none.
 exec 4>&1
 status=$("$start" "$name" --status "$@" 3>&1 >&4 4>&-)
 ended=$?

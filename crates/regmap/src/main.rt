@@ -88,8 +88,8 @@ fn arguments(rt: &HostRuntime, line: &mut [u8]) -> usize {
     at
 }
 
-// A program has no exit status of its own: started with `--status`, it writes one digit to descriptor 3, and the script `regmap`
-// ends with that. Started without it, its last line says how it ended.
+// The program ends with 0: started with `--status`, it writes its status, one digit, to descriptor 3, and the script `regmap` ends with
+// that. Started without it, its last line says how it ended.
 fn is_watched(line: &[u8]) -> bool {
     is(word(line, 0), b"--status")
 }
