@@ -1,23 +1,8 @@
 -- The numbers a call may answer (document 01, "Numbers a call may answer", and document 02's 11 to 15). 0 is done; each refusal has
 -- one number. The limits that they speak of.
-use Rattle.std.specs.Prelude.{ℕ}
-
-pub data Refusal : Type 0 where
-  NotSound : Refusal
-  LongKey : Refusal
-  LongValue : Refusal
-  Reversed : Refusal
-  Full : Refusal
-  NoRoom : Refusal
-  Absent : Refusal
-  BadCapacity : Refusal
-  Malformed : Refusal
-  LongMessage : Refusal
-  IllFormed : Refusal
-  NotCbor : Refusal
-  BadLog : Refusal
-  BadPath : Refusal
-  Unlike : Refusal
+use Rattle.std.specs.Prelude.{ℕ, Ok, Err, Result}
+pub use Rattle.answers.specs.declared.Refusal.{Refusal}
+pub use Rattle.answers.specs.declared.Refusal.TheVariants.{NotSound, LongKey, LongValue, Reversed, Full, NoRoom, Absent, BadCapacity, Malformed, LongMessage, IllFormed, NotCbor, BadLog, BadPath, Unlike}
 
 abbrev pub number_of : Refusal → ℕ
 number_of NotSound = 1
@@ -40,6 +25,11 @@ number_of Unlike = 15
 pub data Outcome (A : Type 0) : Type 0 where
   refused : Refusal → Outcome A
   done : A → Outcome A
+
+-- what a call of the code comes to
+abbrev pub outcome : {A : Type 0} → Result A Refusal → Outcome A
+outcome (Ok x) = done x
+outcome (Err r) = refused r
 
 -- ---- limits
 

@@ -1,38 +1,54 @@
-// The numbers that a call may answer (documents 01 and 02), the limits that they speak of, and what the calls hand back beside a
-// number. The definitions use these structs as they stand here: an answer of the code is one on paper, with nothing to translate.
+// Why a call may be refused, by the numbers of documents 01 and 02, and the limits that they speak of. The definitions use this enum as
+// it stands here: a refusal of the code is one on paper, with nothing to translate.
 #![tactic(auto)]
 
-// ---- numbers: 0 is done
+ghost use Rattle.std.specs.Prelude.{◌≡◌};
+ghost use Rattle.answers.specs.Numbers.{number_of};
 
-pub const NOT_SOUND: usize = 1;
+// In the order of their numbers, which begin with 1.
+#[derive(Clone, Copy, Debug, PartialEq, Eq)]
+pub enum Refusal {
+    NotSound,
+    LongKey,
+    LongValue,
+    Reversed,
+    Full,
+    NoRoom,
+    Absent,
+    BadCapacity,
+    Malformed,
+    LongMessage,
+    IllFormed,
+    NotCbor,
+    BadLog,
+    BadPath,
+    Unlike,
+}
 
-pub const LONG_KEY: usize = 2;
-
-pub const LONG_VALUE: usize = 3;
-
-pub const REVERSED: usize = 4;
-
-pub const FULL: usize = 5;
-
-pub const NO_ROOM: usize = 6;
-
-pub const ABSENT: usize = 7;
-
-pub const BAD_CAPACITY: usize = 8;
-
-pub const MALFORMED: usize = 9;
-
-pub const LONG_MESSAGE: usize = 10;
-
-pub const ILL_FORMED: usize = 11;
-
-pub const NOT_CBOR: usize = 12;
-
-pub const BAD_LOG: usize = 13;
-
-pub const BAD_PATH: usize = 14;
-
-pub const UNLIKE: usize = 15;
+impl Refusal {
+    // The number that it has in the documents and for C; 0, which is none of them, is done.
+    pub fn number(self) -> usize
+        ensures { result ≡ number_of self }
+    {
+        match self {
+            Refusal::NotSound => 1,
+            Refusal::LongKey => 2,
+            Refusal::LongValue => 3,
+            Refusal::Reversed => 4,
+            Refusal::Full => 5,
+            Refusal::NoRoom => 6,
+            Refusal::Absent => 7,
+            Refusal::BadCapacity => 8,
+            Refusal::Malformed => 9,
+            Refusal::LongMessage => 10,
+            Refusal::IllFormed => 11,
+            Refusal::NotCbor => 12,
+            Refusal::BadLog => 13,
+            Refusal::BadPath => 14,
+            Refusal::Unlike => 15,
+        }
+    }
+}
 
 // ---- limits
 
@@ -43,43 +59,3 @@ pub const MAX_VALUE: usize = 64;
 pub const MAX_CAPACITY: usize = 1024;
 
 pub const MAX_MESSAGE: usize = 65_536;
-
-// ---- answers: with any number but 0 the rest is no, 0 or zero bytes
-
-// is_empty
-#[derive(Clone, Copy)]
-pub struct Told {
-    pub number: usize,
-    pub yes: bool,
-}
-
-// count
-#[derive(Clone, Copy)]
-pub struct Counted {
-    pub number: usize,
-    pub count: usize,
-}
-
-// root_hash, rebuild, hash
-#[derive(Clone, Copy)]
-pub struct Digested {
-    pub number: usize,
-    pub digest: [u8; 32],
-}
-
-// get and iteration: where in the store the key and the value lie
-#[derive(Clone, Copy)]
-pub struct Found {
-    pub number: usize,
-    pub key_at: usize,
-    pub key_length: usize,
-    pub value_at: usize,
-    pub value_length: usize,
-}
-
-// What fills the front of an output, with how many bytes.
-#[derive(Clone, Copy)]
-pub struct Saved {
-    pub number: usize,
-    pub size: usize,
-}

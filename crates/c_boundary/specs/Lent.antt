@@ -1,18 +1,23 @@
 -- What a C caller sees of a call: its number, and what it leaves in the things it was lent for its answer. With number 0 these hold
 -- the answer; with any other each is as it was.
-use Rattle.std.specs.Prelude.{Bool, cond, List, ℕ, eqb}
-use Rattle.sha256.specs.declared.Hashed.{Hashed}
-use Rattle.hash_tree.specs.declared.Rebuilt.{Rebuilt}
+use Rattle.std.specs.Prelude.{◌≡◌, Bool, cond, List, ℕ, eqb, Option, Some, None, Result, Ok, Err}
+use Rattle.answers.specs.declared.Refusal.{Refusal}
+use Rattle.answers.specs.Numbers.{number_of}
 use Rattle.lookup.specs.declared.Looked.{Looked}
 use Rattle.lookup.specs.declared.Looked.TheVariants as looked
-use Rattle.lookup.specs.declared.LookedUp.{LookedUp}
+use Rattle.lookup.specs.Answer.{LookedUp}
 use Rattle.store.specs.Answers as answers
 use Rattle.store.specs.Replay.{Replayed}
-use Rattle.c_boundary.specs.declared.Seen.{Seen}
+use Rattle.c_boundary.specs.declared.lent.Seen.{Seen}
 
 -- a lent thing at the end of a call
 abbrev pub lent : {A : Type 0} → (number : ℕ) → (answer before : A) → A
 lent number answer before = cond (eqb number 0) answer before
+
+-- a call hands back its number, and the lent thing holds the answer, or with a refusal what it held
+abbrev pub PutIn : {A : Type 0} → Result A Refusal → (before : A) → (number : ℕ) → (after : A) → Type 0
+PutIn (Ok x) before number after = (number ≡ 0) × (after ≡ x)
+PutIn (Err r) before number after = (number ≡ number_of r) × (after ≡ before)
 
 -- ---- what a call left: its number, and the final values of what it was lent
 
@@ -60,11 +65,11 @@ replayed_to full absent a = replayed_is a.number (lent a.number a.full full) (le
 
 -- ---- what a witness says of a key: 1 found, 2 absent, 3 not to be told; where the child lies, 0 and 0 unless found
 
-abbrev pub seen_of : Looked → Seen
-seen_of (looked.Found a l) = record { result = 1; at = a; length = l }
-seen_of looked.Absent = record { result = 2; at = 0; length = 0 }
-seen_of looked.Unknown = record { result = 3; at = 0; length = 0 }
-seen_of looked.Nothing = record { result = 0; at = 0; length = 0 }
+abbrev pub seen_of : Option Looked → Seen
+seen_of None = record { result = 0; at = 0; length = 0 }
+seen_of (Some (looked.Found a l)) = record { result = 1; at = a; length = l }
+seen_of (Some looked.Absent) = record { result = 2; at = 0; length = 0 }
+seen_of (Some looked.Unknown) = record { result = 3; at = 0; length = 0 }
 
 pub record Asked : Type 0 where
   pub number : ℕ
@@ -78,11 +83,3 @@ asked_is n r a l = asked n (record { result = r; at = a; length = l })
 
 unfoldable pub asked_to : (result at length : ℕ) → LookedUp → Asked
 asked_to r a l x = asked x.number (lent x.number (seen_of x.looked) (record { result = r; at = a; length = l }))
-
--- ---- the answers of the two calls without a store, field by field
-
-abbrev pub rebuilt_of : Rebuilt → answers.Digested
-rebuilt_of r = digested_is r.number r.digest
-
-abbrev pub hashed_of : Hashed → answers.Digested
-hashed_of r = digested_is r.number r.digest

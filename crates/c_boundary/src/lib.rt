@@ -2,166 +2,46 @@
 // and a refusal leaves this as it was. A slice is a pointer and a length.
 #![tactic(auto)]
 
-ghost use Rattle.std.specs.Prelude.{◌≡◌, List, ℕ};
+mod lent;
+
+ghost use Rattle.std.specs.Prelude.{◌≡◌};
 ghost use Rattle.sha256.specs.Hashed.{hashed};
 ghost use Rattle.hash_tree.specs.Whole.{rebuilt};
 ghost use Rattle.store.specs.Calls.{create_answer, is_empty_answer, count_answer, root_hash_answer, get_answer, first_entry_answer, next_entry_answer, insert_answer, modify_answer, delete_answer, as_hash_tree_answer, keys_answer, witness_answer, key_range_answer, value_range_answer, keys_with_prefix_answer};
 ghost use Rattle.store.specs.Replay.{replay_answer};
-ghost use Rattle.replay.specs.Runs.{ran_to};
 ghost use Rattle.store.specs.Difference.{difference_answer};
-ghost use Rattle.answers.specs.Answers.{answered, changed_of};
+ghost use Rattle.answers.specs.Answers.{changed_of};
 ghost use Rattle.lookup.specs.Answer.{lookup_answer};
 ghost use Rattle.merge.specs.Answer.{merge_answer};
 ghost use Rattle.cbor.specs.Answer.{cbor_written, cbor_read};
 ghost use Rattle.parts.specs.Machine.{ended, part_number};
 ghost use Rattle.parts.specs.Layout.{begun, run, parts_of};
-ghost use Rattle.c_boundary.specs.Lent.{told_is, told_to, counted_is, counted_to, digested_is, digested_to, found_is, found_to, written_is, written_to, replayed_is, replayed_to, seen_of, asked_is, asked_to, rebuilt_of, hashed_of};
+ghost use Rattle.c_boundary.specs.Lent.{told_is, told_to, counted_is, counted_to, digested_is, digested_to, found_is, found_to, written_is, written_to, replayed_is, replayed_to, asked_is, asked_to};
 
-use answers::{Counted, Found, Saved, Told};
-use lookup::{Looked, LookedUp};
+use crate::lent::{number, put, put_counts, put_places, put_seen};
 use parts::STATE;
-use replay::Replayed;
 
-// ---- what is lent for an answer: filled if the number is 0
-
-fn put_yes(told: Told, yes: &mut bool) -> usize
-    ensures { told_is result yes.new ≡ told_to yes.old told }
-{
-    if told.number == 0 {
-        *yes = told.yes;
-    }
-    told.number
-}
-
-fn put_count(counted: Counted, count: &mut usize) -> usize
-    ensures { counted_is result count.new ≡ counted_to count.old counted }
-{
-    if counted.number == 0 {
-        *count = counted.count;
-    }
-    counted.number
-}
-
-fn put_digest(number: usize, answer: [u8; 32], digest: &mut [u8; 32]) -> usize
-    ensures { digested_is result digest.new ≡ digested_to digest.old (digested_is number answer) }
-{
-    if number == 0 {
-        *digest = answer;
-    }
-    number
-}
-
-fn put_places(
-    found: Found,
-    key_at: &mut usize,
-    key_length: &mut usize,
-    value_at: &mut usize,
-    value_length: &mut usize,
-) -> usize
-    ensures { found_is result key_at.new key_length.new value_at.new value_length.new ≡ found_to key_at.old key_length.old value_at.old value_length.old found }
-{
-    if found.number == 0 {
-        *key_at = found.key_at;
-        *key_length = found.key_length;
-        *value_at = found.value_at;
-        *value_length = found.value_length;
-    }
-    found.number
-}
-
-// The output has been seen to already, whatever it holds.
-fn put_length(saved: Saved, length: &mut usize) -> usize
-    ensures { (out : List ℕ) → written_is result length.new out ≡ written_to length.old (answered saved out) }
-{
-    if saved.number == 0 {
-        *length = saved.size;
-    }
-    saved.number
-}
-
-fn put_counts(replayed: Replayed, full: &mut usize, absent: &mut usize) -> usize
-    ensures { (s : List ℕ) → replayed_is result full.new absent.new s ≡ replayed_to full.old absent.old (ran_to replayed s) }
-{
-    if replayed.number == 0 {
-        *full = replayed.full;
-        *absent = replayed.absent;
-    }
-    replayed.number
-}
-
-const FOUND: usize = 1;
-
-const ABSENT: usize = 2;
-
-const UNKNOWN: usize = 3;
-
-// What a witness says of a key, in numbers.
-#[derive(Clone, Copy)]
-pub struct Seen {
-    pub result: usize,
-    pub at: usize,
-    pub length: usize,
-}
-
-fn result_alone(res: usize) -> Seen
-    ensures { result ≡ record { result = res; at = 0; length = 0 } }
-{
-    Seen {
-        result: res,
-        at: 0,
-        length: 0,
-    }
-}
-
-fn seen_of(looked: Looked) -> Seen
-    ensures { result ≡ seen_of looked }
-{
-    match looked {
-        Looked::Found { at, length } => Seen {
-            result: FOUND,
-            at,
-            length,
-        },
-        Looked::Absent => result_alone(ABSENT),
-        Looked::Unknown => result_alone(UNKNOWN),
-        Looked::Nothing => result_alone(0),
-    }
-}
-
-fn put_seen(up: LookedUp, res: &mut usize, child_at: &mut usize, child_length: &mut usize) -> usize
-    ensures { asked_is result res.new child_at.new child_length.new ≡ asked_to res.old child_at.old child_length.old up }
-{
-    let looked = up.looked;
-    let x = seen_of(looked);
-    if up.number == 0 {
-        *res = x.result;
-        *child_at = x.at;
-        *child_length = x.length;
-    }
-    up.number
-}
-
-// ---- a store as a whole
+// ---- the calls as include/dampcandle.h declares them, one by one, places and lengths as numbers of their own: a store as a whole
 
 #[unsafe(no_mangle)]
 pub extern "C" fn dampcandle_create(store: &mut [u8], capacity: u64) -> usize
     ensures { changed_of result store.new ≡ create_answer capacity store.old }
 {
-    register_map::create(store, capacity)
+    number(register_map::create(store, capacity))
 }
 
 #[unsafe(no_mangle)]
 pub extern "C" fn dampcandle_is_empty(store: &[u8], yes: &mut bool) -> usize
     ensures { told_is result yes.new ≡ told_to yes.old (is_empty_answer store.now) }
 {
-    put_yes(register_map::is_empty(store), yes)
+    put(register_map::is_empty(store), yes)
 }
 
 #[unsafe(no_mangle)]
 pub extern "C" fn dampcandle_count(store: &[u8], count: &mut usize) -> usize
     ensures { counted_is result count.new ≡ counted_to count.old (count_answer store.now) }
 {
-    put_count(register_map::count(store), count)
+    put(register_map::count(store), count)
 }
 
 #[unsafe(no_mangle)]
@@ -169,8 +49,7 @@ pub extern "C" fn dampcandle_root_hash(store: &[u8], digest: &mut [u8; 32]) -> u
     ensures { digested_is result digest.new ≡ digested_to digest.old (root_hash_answer store.now) }
 {
     let root = register_map::root_hash(store);
-    let answer = root.digest;
-    put_digest(root.number, answer, digest)
+    put(root, digest)
 }
 
 // ---- entries: where in the store the key and the value lie
@@ -186,8 +65,13 @@ pub extern "C" fn dampcandle_get(
 ) -> usize
     ensures { found_is result key_at.new key_length.new value_at.new value_length.new ≡ found_to key_at.old key_length.old value_at.old value_length.old (get_answer key.now store.now) }
 {
-    let found = register_map::get(store, key);
-    put_places(found, key_at, key_length, value_at, value_length)
+    put_places(
+        register_map::get(store, key),
+        key_at,
+        key_length,
+        value_at,
+        value_length,
+    )
 }
 
 #[unsafe(no_mangle)]
@@ -200,8 +84,13 @@ pub extern "C" fn dampcandle_first_entry(
 ) -> usize
     ensures { found_is result key_at.new key_length.new value_at.new value_length.new ≡ found_to key_at.old key_length.old value_at.old value_length.old (first_entry_answer store.now) }
 {
-    let found = register_map::first_entry(store);
-    put_places(found, key_at, key_length, value_at, value_length)
+    put_places(
+        register_map::first_entry(store),
+        key_at,
+        key_length,
+        value_at,
+        value_length,
+    )
 }
 
 #[unsafe(no_mangle)]
@@ -215,8 +104,13 @@ pub extern "C" fn dampcandle_next_entry(
 ) -> usize
     ensures { found_is result key_at.new key_length.new value_at.new value_length.new ≡ found_to key_at.old key_length.old value_at.old value_length.old (next_entry_answer key.now store.now) }
 {
-    let found = register_map::next_entry(store, key);
-    put_places(found, key_at, key_length, value_at, value_length)
+    put_places(
+        register_map::next_entry(store, key),
+        key_at,
+        key_length,
+        value_at,
+        value_length,
+    )
 }
 
 // ---- changes
@@ -225,21 +119,21 @@ pub extern "C" fn dampcandle_next_entry(
 pub extern "C" fn dampcandle_insert(store: &mut [u8], key: &[u8], value: &[u8]) -> usize
     ensures { changed_of result store.new ≡ insert_answer key.now value.now store.old }
 {
-    register_map::insert(store, key, value)
+    number(register_map::insert(store, key, value))
 }
 
 #[unsafe(no_mangle)]
 pub extern "C" fn dampcandle_modify(store: &mut [u8], key: &[u8], value: &[u8]) -> usize
     ensures { changed_of result store.new ≡ modify_answer key.now value.now store.old }
 {
-    register_map::modify(store, key, value)
+    number(register_map::modify(store, key, value))
 }
 
 #[unsafe(no_mangle)]
 pub extern "C" fn dampcandle_delete(store: &mut [u8], key: &[u8]) -> usize
     ensures { changed_of result store.new ≡ delete_answer key.now store.old }
 {
-    register_map::delete(store, key)
+    number(register_map::delete(store, key))
 }
 
 // Runs a build log.
@@ -261,14 +155,14 @@ pub extern "C" fn dampcandle_replay(
 pub extern "C" fn dampcandle_as_hash_tree(store: &[u8], out: &mut [u8], length: &mut usize) -> usize
     ensures { written_is result length.new out.new ≡ written_to length.old (as_hash_tree_answer store.now out.old) }
 {
-    put_length(register_map::as_hash_tree(store, out), length)
+    put(register_map::as_hash_tree(store, out), length)
 }
 
 #[unsafe(no_mangle)]
 pub extern "C" fn dampcandle_keys(store: &[u8], out: &mut [u8], length: &mut usize) -> usize
     ensures { written_is result length.new out.new ≡ written_to length.old (keys_answer store.now out.old) }
 {
-    put_length(register_map::keys(store, out), length)
+    put(register_map::keys(store, out), length)
 }
 
 #[unsafe(no_mangle)]
@@ -280,7 +174,7 @@ pub extern "C" fn dampcandle_witness(
 ) -> usize
     ensures { written_is result length.new out.new ≡ written_to length.old (witness_answer key.now store.now out.old) }
 {
-    put_length(register_map::witness(store, key, out), length)
+    put(register_map::witness(store, key, out), length)
 }
 
 #[unsafe(no_mangle)]
@@ -293,7 +187,7 @@ pub extern "C" fn dampcandle_key_range(
 ) -> usize
     ensures { written_is result length.new out.new ≡ written_to length.old (key_range_answer first.now last.now store.now out.old) }
 {
-    put_length(register_map::key_range(store, first, last, out), length)
+    put(register_map::key_range(store, first, last, out), length)
 }
 
 #[unsafe(no_mangle)]
@@ -306,7 +200,7 @@ pub extern "C" fn dampcandle_value_range(
 ) -> usize
     ensures { written_is result length.new out.new ≡ written_to length.old (value_range_answer first.now last.now store.now out.old) }
 {
-    put_length(register_map::value_range(store, first, last, out), length)
+    put(register_map::value_range(store, first, last, out), length)
 }
 
 #[unsafe(no_mangle)]
@@ -318,7 +212,7 @@ pub extern "C" fn dampcandle_keys_with_prefix(
 ) -> usize
     ensures { written_is result length.new out.new ≡ written_to length.old (keys_with_prefix_answer prefix.now store.now out.old) }
 {
-    put_length(register_map::keys_with_prefix(store, prefix, out), length)
+    put(register_map::keys_with_prefix(store, prefix, out), length)
 }
 
 // ---- two stores
@@ -332,18 +226,16 @@ pub extern "C" fn dampcandle_difference(
 ) -> usize
     ensures { written_is result length.new out.new ≡ written_to length.old (difference_answer old.now new.now out.old) }
 {
-    put_length(register_map::difference(old, new, out), length)
+    put(register_map::difference(old, new, out), length)
 }
 
 // ---- without a store
 
 #[unsafe(no_mangle)]
 pub extern "C" fn dampcandle_rebuild(witness: &[u8], digest: &mut [u8; 32]) -> usize
-    ensures { digested_is result digest.new ≡ digested_to digest.old (rebuilt_of (rebuilt witness.now)) }
+    ensures { digested_is result digest.new ≡ digested_to digest.old (rebuilt witness.now) }
 {
-    let rebuilt = register_map::rebuild(witness);
-    let answer = rebuilt.digest;
-    put_digest(rebuilt.number, answer, digest)
+    put(register_map::rebuild(witness), digest)
 }
 
 // What the witness says of the key. It hashes nothing: rebuild first, and compare the digest.
@@ -374,21 +266,21 @@ pub extern "C" fn dampcandle_merge(
 ) -> usize
     ensures { written_is result length.new out.new ≡ written_to length.old (merge_answer one.now other.now out.old) }
 {
-    put_length(register_map::merge(one, other, out), length)
+    put(register_map::merge(one, other, out), length)
 }
 
 #[unsafe(no_mangle)]
 pub extern "C" fn dampcandle_write_cbor(witness: &[u8], out: &mut [u8], length: &mut usize) -> usize
     ensures { written_is result length.new out.new ≡ written_to length.old (cbor_written witness.now out.old) }
 {
-    put_length(register_map::write_cbor(witness, out), length)
+    put(register_map::write_cbor(witness, out), length)
 }
 
 #[unsafe(no_mangle)]
 pub extern "C" fn dampcandle_read_cbor(cbor: &[u8], out: &mut [u8], length: &mut usize) -> usize
     ensures { written_is result length.new out.new ≡ written_to length.old (cbor_read cbor.now out.old) }
 {
-    put_length(register_map::read_cbor(cbor, out), length)
+    put(register_map::read_cbor(cbor, out), length)
 }
 
 // ---- rebuild in parts
@@ -404,23 +296,19 @@ pub extern "C" fn dampcandle_rebuild_begin(state: &mut [u8; STATE])
 pub extern "C" fn dampcandle_rebuild_part(state: &mut [u8; STATE], bytes: &[u8]) -> usize
     ensures { (state.new ≡ run state.old bytes.now) × (result ≡ part_number (parts_of state.new)) }
 {
-    register_map::rebuild_part(state, bytes)
+    number(register_map::rebuild_part(state, bytes))
 }
 
 #[unsafe(no_mangle)]
 pub extern "C" fn dampcandle_rebuild_end(state: &[u8; STATE], digest: &mut [u8; 32]) -> usize
-    ensures { digested_is result digest.new ≡ digested_to digest.old (rebuilt_of (ended (parts_of state.now))) }
+    ensures { digested_is result digest.new ≡ digested_to digest.old (ended (parts_of state.now)) }
 {
-    let end = register_map::rebuild_end(state);
-    let answer = end.digest;
-    put_digest(end.number, answer, digest)
+    put(register_map::rebuild_end(state), digest)
 }
 
 #[unsafe(no_mangle)]
 pub extern "C" fn dampcandle_hash(message: &[u8], digest: &mut [u8; 32]) -> usize
-    ensures { digested_is result digest.new ≡ digested_to digest.old (hashed_of (hashed message.now)) }
+    ensures { digested_is result digest.new ≡ digested_to digest.old (hashed message.now) }
 {
-    let hashed = register_map::hash(message);
-    let answer = hashed.digest;
-    put_digest(hashed.number, answer, digest)
+    put(register_map::hash(message), digest)
 }

@@ -1,113 +1,60 @@
 // Standard input, a line at a time.
 use std::io::Read;
 
-// What was read: whether there was a line at all, whether the buffer had room for it, and its length, or 0 for one without room: the
-// empty line too is none that a call has. Then what is left of the chunk.
-#[derive(Clone, Copy)]
-pub(crate) struct Line {
-    pub(crate) any: bool,
-    pub(crate) fits: bool,
-    pub(crate) len: usize,
-    pub(crate) at: usize,
-    pub(crate) end: usize,
+// What is left of the chunk that was read.
+#[derive(Drop)]
+pub(crate) struct Input {
+    chunk: [u8; 65_536],
+    at: usize,
+    end: usize,
 }
 
-// One byte more of standard input, or none; then what is left of the chunk.
-#[derive(Clone, Copy)]
-pub(crate) struct Byte {
-    pub(crate) any: bool,
-    pub(crate) byte: u8,
-    pub(crate) at: usize,
-    pub(crate) end: usize,
+// Puts the byte in its place, and answers the next one; none, where the line has no room.
+fn put(line: &mut [u8], at: usize, b: u8) -> Option<usize> {
+    *line.get_mut(at)? = b;
+    Some(at + 1)
 }
 
-// As far as the input comes; 0 at its end, or where a read fails.
-fn refill(rt: &HostRuntime, chunk: &mut [u8]) -> usize {
-    let mut input = rt.stdin();
-    match input.read(chunk) {
-        Ok(n) => n,
-        Err(_) => 0,
-    }
-}
-
-fn byte_at(chunk: &[u8], at: usize, end: usize) -> Byte {
-    if at < chunk.len() {
-        return Byte {
-            any: true,
-            byte: chunk[at],
-            at: at + 1,
-            end,
-        };
-    }
-    Byte {
-        any: false,
-        byte: 0,
-        at,
-        end,
-    }
-}
-
-fn next(rt: &HostRuntime, chunk: &mut [u8], at: usize, end: usize) -> Byte {
-    if at < end {
-        return byte_at(chunk, at, end);
-    }
-    let n = refill(rt, chunk);
-    if n == 0 {
-        return Byte {
-            any: false,
-            byte: 0,
+impl Input {
+    pub(crate) fn new() -> Input {
+        Input {
+            chunk: [0u8; 65_536],
             at: 0,
             end: 0,
-        };
-    }
-    byte_at(chunk, 0, n)
-}
-
-// A loop has to end, and nothing says that the input does: it counts its turns down, from a number that no run uses up.
-pub(crate) fn read_line(
-    rt: &HostRuntime,
-    chunk: &mut [u8],
-    line: &mut [u8],
-    from: usize,
-    to: usize,
-) -> Line {
-    let mut turns = u64::MAX;
-    let mut got = Line {
-        any: false,
-        fits: true,
-        len: 0,
-        at: from,
-        end: to,
-    };
-    while turns > 0 {
-        turns -= 1;
-        let b = next(rt, chunk, got.at, got.end);
-        got.at = b.at;
-        got.end = b.end;
-        if !b.any {
-            return got;
         }
-        got.any = true;
-        if b.byte == b'\n' {
-            return got;
-        }
-        got = kept(line, got, b.byte);
     }
-    got
-}
 
-fn kept(line: &mut [u8], got: Line, b: u8) -> Line {
-    let len = got.len;
-    let mut more = got;
-    if !got.fits {
-        return more;
+    // One byte more, or none at its end or where a read fails.
+    fn next(&mut self, rt: &HostRuntime) -> Option<u8> {
+        if self.end <= self.at {
+            self.at = 0;
+            self.end = rt.stdin().read(&mut self.chunk).unwrap_or(0);
+        }
+        if self.end <= self.at {
+            return None;
+        }
+        let b = *self.chunk.get(self.at)?;
+        self.at += 1;
+        Some(b)
     }
-    if len < line.len() {
-        line[len] = b;
-        more.len = len + 1;
-        return more;
+
+    // The length of one line more, if there is one; 0 for one that the buffer has no room for: the empty line too is none that a call has.
+    pub(crate) fn read_line(&mut self, rt: &HostRuntime, line: &mut [u8]) -> Option<usize> {
+        let mut b = self.next(rt)?;
+        let mut kept = Some(0);
+        // A loop has to end, and nothing says that the input does: it counts its turns, up to a number that no run comes to.
+        for _ in 0..u64::MAX {
+            if b == b'\n' {
+                break;
+            }
+            if let Some(at) = kept {
+                kept = put(line, at, b);
+            }
+            let Some(more) = self.next(rt) else {
+                break;
+            };
+            b = more;
+        }
+        Some(kept.unwrap_or(0))
     }
-    more.fits = false;
-    more.len = 0;
-    more
 }

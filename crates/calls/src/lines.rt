@@ -1,358 +1,225 @@
-// The calls that lines ask for, made on the driver's store and output.
-use crate::asked::{Asked, Span, asked_by};
-use crate::input::read_line;
-use crate::names::{Ask, Call, Change, Feed, Setup, Show, Two};
+// The calls that lines ask for, made on the driver's stores and output.
+use crate::input::Input;
+use crate::names::{Ask, Call, Change, Feed, Setup, Show, call_of};
 use crate::reply::{
-    say_bytes, say_count, say_digest, say_found, say_looked, say_number, say_ok, say_replayed,
+    say_bytes, say_count, say_digest, say_done, say_found, say_looked, say_ok, say_replayed,
     say_unknown, say_whether, say_witness,
 };
-use answers::Saved;
+use answers::Refusal;
 use parts::STATE;
+use std::mem::swap;
 use text::print::is_unread;
 use text::words::within;
-
-// How many bytes of the store, of the other store and of the output are in use. The two stores are the halves of one buffer.
-#[derive(Clone, Copy)]
-struct Sizes {
-    store: usize,
-    other: usize,
-    output: usize,
-}
-
-// ---- the driver's own bytes
 
 const FRESH: u8 = 0xee;
 
 const UNTOUCHED: u8 = 0xa5;
 
-fn fill(s: &mut [u8], b: u8) {
-    let mut i = 0;
-    while i < s.len() {
-        s[i] = b;
-        i += 1;
+// Bytes, and how many of them are in use: a later line may put more of them in use, so all are held.
+#[derive(Drop)]
+pub(crate) struct Buffer<'a> {
+    bytes: &'a mut [u8],
+    used: usize,
+}
+
+impl<'a> Buffer<'a> {
+    fn in_use(&self) -> &[u8] {
+        &self.bytes[..within(self.used, self.bytes)]
+    }
+
+    fn in_use_mut(&mut self) -> &mut [u8] {
+        let n = within(self.used, self.bytes);
+        &mut self.bytes[..n]
     }
 }
 
-fn buffer(n: u64, store: &mut [u8], sizes: Sizes) -> Sizes {
-    if n > store.len() as u64 {
-        say_unknown();
-        return sizes;
-    }
-    fill(store, FRESH);
-    say_ok();
-    Sizes {
-        store: n as usize,
-        other: sizes.other,
-        output: sizes.output,
-    }
-}
-
-fn load(new: &[u8], store: &mut [u8], sizes: Sizes) -> Sizes {
-    if store.len() < new.len() {
-        say_unknown();
-        return sizes;
-    }
-    store[..new.len()].copy_from_slice(new);
-    say_ok();
-    Sizes {
-        store: new.len(),
-        other: sizes.other,
-        output: sizes.output,
-    }
-}
-
-fn poke(at: u64, new: &[u8], store: &mut [u8]) {
-    if at > store.len() as u64 {
-        say_unknown();
-        return;
-    }
-    let from = at as usize;
-    if store.len() - from < new.len() {
-        say_unknown();
-        return;
-    }
-    store[from..from + new.len()].copy_from_slice(new);
-    say_ok();
-}
-
-fn room(n: u64, most: usize, sizes: Sizes) -> Sizes {
-    if n > most as u64 {
-        say_unknown();
-        return sizes;
-    }
-    say_ok();
-    Sizes {
-        store: sizes.store,
-        other: sizes.other,
-        output: n as usize,
-    }
-}
-
-fn set_up(
-    which: Setup,
-    number: u64,
-    bytes: &[u8],
-    store: &mut [u8],
-    most: usize,
-    sizes: Sizes,
-) -> Sizes {
-    match which {
-        Setup::Buffer => buffer(number, store, sizes),
-        Setup::Load => load(bytes, store, sizes),
-        Setup::Poke => {
-            let n = within(sizes.store, store);
-            poke(number, bytes, &mut store[..n]);
-            sizes
-        }
-        Setup::Room => room(number, most, sizes),
-    }
-}
-
-// ---- public calls
-
-fn change(which: Change, number: u64, a: &[u8], b: &[u8], store: &mut [u8]) -> usize {
-    match which {
-        Change::Create => register_map::create(store, number),
-        Change::Insert => register_map::insert(store, a, b),
-        Change::Modify => register_map::modify(store, a, b),
-        Change::Delete => register_map::delete(store, a),
-    }
-}
-
-fn root(store: &[u8]) {
-    let r = register_map::root_hash(store);
-    let d = r.digest;
-    say_digest(r.number, d);
-}
-
-fn rebuild(witness: &[u8]) {
-    let r = register_map::rebuild(witness);
-    let d = r.digest;
-    say_digest(r.number, d);
-}
-
-fn ended(state: &[u8; STATE]) {
-    let r = register_map::rebuild_end(state);
-    let d = r.digest;
-    say_digest(r.number, d);
-}
-
-fn hash(message: &[u8]) {
-    let r = register_map::hash(message);
-    let d = r.digest;
-    say_digest(r.number, d);
-}
-
-fn count(store: &[u8]) {
-    let r = register_map::count(store);
-    say_count(r.number, r.count);
-}
-
-fn empty(store: &[u8]) {
-    let r = register_map::is_empty(store);
-    say_whether(r.number, r.yes);
-}
-
-fn ask(which: Ask, bytes: &[u8], key: &[u8], store: &[u8]) {
-    match which {
-        Ask::Get => say_found(register_map::get(store, bytes)),
-        Ask::First => say_found(register_map::first_entry(store)),
-        Ask::Next => say_found(register_map::next_entry(store, bytes)),
-        Ask::Count => count(store),
-        Ask::Empty => empty(store),
-        Ask::Root => root(store),
-        Ask::Rebuild => rebuild(bytes),
-        Ask::Lookup => say_looked(register_map::lookup(bytes, key)),
-        Ask::Hash => hash(bytes),
-        Ask::Store => say_bytes(store),
-        Ask::Sum => say_bytes(&sha256::digest(store)),
-    }
-}
-
-fn witness(which: Show, a: &[u8], b: &[u8], store: &[u8], output: &mut [u8]) -> Saved {
-    match which {
-        Show::Full => register_map::as_hash_tree(store, output),
-        Show::Keys => register_map::keys(store, output),
-        Show::Witness => register_map::witness(store, a, output),
-        Show::KeyRange => register_map::key_range(store, a, b, output),
-        Show::ValueRange => register_map::value_range(store, a, b, output),
-        Show::Prefix => register_map::keys_with_prefix(store, a, output),
-        Show::Merge => register_map::merge(a, b, output),
-        Show::ToCbor => register_map::write_cbor(a, output),
-        Show::FromCbor => register_map::read_cbor(a, output),
-    }
+// What the driver holds: two stores, one output, and the state of a rebuild in parts.
+#[derive(Drop)]
+pub(crate) struct Driver<'a> {
+    store: Buffer<'a>,
+    other: Buffer<'a>,
+    output: Buffer<'a>,
+    state: [u8; STATE],
 }
 
 // How many bytes from `from` on are no longer as they were.
 fn touched(output: &[u8], from: usize) -> usize {
-    let mut n: usize = 0;
-    let mut i = from;
-    while i < output.len() {
-        if output[i] != UNTOUCHED {
-            n += 1;
+    output
+        .iter()
+        .skip(from)
+        .filter(|b| **b != UNTOUCHED)
+        .count()
+}
+
+impl<'a> Driver<'a> {
+    pub(crate) fn new(
+        store: &'a mut [u8],
+        other: &'a mut [u8],
+        output: &'a mut [u8],
+    ) -> Driver<'a> {
+        let mut state = [0u8; STATE];
+        register_map::rebuild_begin(&mut state);
+        Driver {
+            store: Buffer {
+                bytes: store,
+                used: 0,
+            },
+            other: Buffer {
+                bytes: other,
+                used: 0,
+            },
+            output: Buffer {
+                bytes: output,
+                used: 0,
+            },
+            state,
         }
-        i += 1;
     }
-    n
-}
 
-fn show(which: Show, a: &[u8], b: &[u8], store: &[u8], output: &mut [u8]) {
-    fill(output, UNTOUCHED);
-    let r = witness(which, a, b, store, output);
-    say_witness(r, output, touched(output, r.size));
-}
+    // ---- the driver's own bytes
 
-// ---- the two stores
-
-// The two halves change places.
-fn exchange(both: &mut [u8]) {
-    let half = both.len() / 2;
-    let mut i = 0;
-    while i < half {
-        let b = both[i];
-        both[i] = both[half + i];
-        both[half + i] = b;
-        i += 1;
+    fn buffer(&mut self, n: u64) -> Option<()> {
+        if n > self.store.bytes.len() as u64 {
+            return None;
+        }
+        self.store.bytes.fill(FRESH);
+        self.store.used = n as usize;
+        Some(())
     }
-}
 
-// The other is the old store.
-fn differ(both: &[u8], output: &mut [u8], sizes: Sizes) {
-    let half = both.len() / 2;
-    let other = &both[half..];
-    let k = within(sizes.other, other);
-    let n = within(sizes.store, both);
-    fill(output, UNTOUCHED);
-    let r = register_map::difference(&other[..k], &both[..n], output);
-    say_witness(r, output, touched(output, r.size));
-}
+    fn load(&mut self, new: &[u8]) -> Option<()> {
+        let n = new.len();
+        self.store.bytes.get_mut(..n)?.copy_from_slice(new);
+        self.store.used = n;
+        Some(())
+    }
 
-fn two(which: Two, both: &mut [u8], output: &mut [u8], sizes: Sizes) -> Sizes {
-    match which {
-        Two::Swap => {
-            exchange(both);
-            say_ok();
-            Sizes {
-                store: sizes.other,
-                other: sizes.store,
-                output: sizes.output,
+    fn poke(&mut self, at: u64, new: &[u8]) -> Option<()> {
+        let from = at as usize;
+        let to = from.checked_add(new.len())?;
+        self.store
+            .in_use_mut()
+            .get_mut(from..to)?
+            .copy_from_slice(new);
+        Some(())
+    }
+
+    fn room(&mut self, n: u64) -> Option<()> {
+        if n > self.output.bytes.len() as u64 {
+            return None;
+        }
+        self.output.used = n as usize;
+        Some(())
+    }
+
+    fn set_up(&mut self, which: Setup) -> Option<()> {
+        match which {
+            Setup::Buffer(n) => self.buffer(n),
+            Setup::Load(new) => self.load(new),
+            Setup::Poke(at, new) => self.poke(at, new),
+            Setup::Room(n) => self.room(n),
+        }
+    }
+
+    // ---- public calls
+
+    fn change(&mut self, which: Change) -> Result<(), Refusal> {
+        let store = self.store.in_use_mut();
+        match which {
+            Change::Create(capacity) => register_map::create(store, capacity),
+            Change::Insert(key, value) => register_map::insert(store, key, value),
+            Change::Modify(key, value) => register_map::modify(store, key, value),
+            Change::Delete(key) => register_map::delete(store, key),
+        }
+    }
+
+    fn ask(&self, which: Ask) {
+        let store = self.store.in_use();
+        match which {
+            Ask::Get(key) => say_found(register_map::get(store, key)),
+            Ask::First => say_found(register_map::first_entry(store)),
+            Ask::Next(key) => say_found(register_map::next_entry(store, key)),
+            Ask::Count => say_count(register_map::count(store)),
+            Ask::Empty => say_whether(register_map::is_empty(store)),
+            Ask::Root => say_digest(register_map::root_hash(store)),
+            Ask::Rebuild(witness) => say_digest(register_map::rebuild(witness)),
+            Ask::Lookup(witness, key) => say_looked(register_map::lookup(witness, key)),
+            Ask::Hash(message) => say_digest(register_map::hash(message)),
+            Ask::Store => say_bytes(store),
+            Ask::Sum => say_bytes(&sha256::digest(store)),
+        }
+    }
+
+    fn show(&mut self, which: Show) {
+        let store = self.store.in_use();
+        let out = self.output.in_use_mut();
+        out.fill(UNTOUCHED);
+        let r = match which {
+            Show::Full => register_map::as_hash_tree(store, out),
+            Show::Keys => register_map::keys(store, out),
+            Show::Witness(key) => register_map::witness(store, key, out),
+            Show::KeyRange(first, last) => register_map::key_range(store, first, last, out),
+            Show::ValueRange(first, last) => register_map::value_range(store, first, last, out),
+            Show::Prefix(prefix) => register_map::keys_with_prefix(store, prefix, out),
+            Show::Merge(one, other) => register_map::merge(one, other, out),
+            Show::ToCbor(witness) => register_map::write_cbor(witness, out),
+            Show::FromCbor(cbor) => register_map::read_cbor(cbor, out),
+            // The other is the old store.
+            Show::Diff => register_map::difference(self.other.in_use(), store, out),
+        };
+        say_witness(r, out, touched(out, r.unwrap_or(0)));
+    }
+
+    fn feed(&mut self, which: Feed) {
+        match which {
+            Feed::Begin => {
+                register_map::rebuild_begin(&mut self.state);
+                say_ok();
+            }
+            Feed::Part(bytes) => say_done(register_map::rebuild_part(&mut self.state, bytes)),
+            Feed::End => say_digest(register_map::rebuild_end(&self.state)),
+        }
+    }
+
+    // ---- lines
+
+    fn perform(&mut self, call: Call) {
+        match call {
+            Call::Setup(which) => match self.set_up(which) {
+                Some(()) => say_ok(),
+                None => say_unknown(),
+            },
+            Call::Change(which) => say_done(self.change(which)),
+            Call::Ask(which) => self.ask(which),
+            Call::Show(which) => self.show(which),
+            Call::Feed(which) => self.feed(which),
+            Call::Replay(log) => {
+                say_replayed(register_map::replay(self.store.in_use_mut(), log));
+            }
+            Call::Swap => {
+                swap(&mut self.store, &mut self.other);
+                say_ok();
             }
         }
-        Two::Diff => {
-            differ(both, output, sizes);
-            sizes
+    }
+
+    // Answers a line.
+    fn turn(&mut self, line: &mut [u8]) {
+        match call_of(line) {
+            Some(call) => self.perform(call),
+            None => say_unknown(),
         }
     }
 }
 
-// ---- lines
-
-// These bytes of a line, which has them.
-fn part(line: &[u8], at: Span) -> &[u8] {
-    let from = at.from;
-    let to = at.to;
-    if from <= to {
-        if to <= line.len() {
-            return &line[from..to];
-        }
-    }
-    let z = 0;
-    &line[..z]
-}
-
-// A call on the bytes that are in use.
-fn perform(call: Call, number: u64, a: &[u8], b: &[u8], store: &mut [u8], output: &mut [u8]) {
-    match call {
-        Call::Change(which) => say_number(change(which, number, a, b, store)),
-        Call::Ask(which) => ask(which, a, b, store),
-        Call::Show(which) => show(which, a, b, store, output),
-        Call::Replay => say_replayed(register_map::replay(store, a)),
-        Call::Unknown => say_unknown(),
-        _ => return,
-    }
-}
-
-// What the first `n` bytes of a line ask for.
-fn read(line: &mut [u8], n: usize) -> Asked {
-    let end = within(n, line);
-    asked_by(&mut line[..end])
-}
-
-// A line about the rebuild in parts; any other is left to `answer`.
-fn feed(x: Asked, line: &[u8], state: &mut [u8; STATE]) {
-    let call = x.call;
-    let Call::Feed(which) = call else {
-        return;
-    };
-    match which {
-        Feed::Begin => {
-            register_map::rebuild_begin(state);
-            say_ok();
-        }
-        Feed::Part => say_number(register_map::rebuild_part(state, part(line, x.a))),
-        Feed::End => ended(state),
-    }
-}
-
-// Answers any other line.
-fn answer(x: Asked, line: &[u8], both: &mut [u8], output: &mut [u8], sizes: Sizes) -> Sizes {
-    let call = x.call;
-    let a = part(line, x.a);
-    if let Call::Setup(which) = call {
-        let half = within(both.len() / 2, both);
-        return set_up(which, x.number, a, &mut both[..half], output.len(), sizes);
-    }
-    let m = within(sizes.output, output);
-    if let Call::Two(which) = call {
-        return two(which, both, &mut output[..m], sizes);
-    }
-    let b = part(line, x.b);
-    let k = within(sizes.store, both);
-    perform(call, x.number, a, b, &mut both[..k], &mut output[..m]);
-    sizes
-}
-
-// Answers a line of `n` bytes.
-fn turn(
-    line: &mut [u8],
-    n: usize,
-    both: &mut [u8],
-    output: &mut [u8],
-    state: &mut [u8; STATE],
-    sizes: Sizes,
-) -> Sizes {
-    let asked = read(line, n);
-    feed(asked, line, state);
-    answer(asked, line, both, output, sizes)
-}
-
-// A loop has to end, and nothing says that the input does: it counts its turns down, from a number that no run uses up.
-pub(crate) fn run(
-    rt: &HostRuntime,
-    chunk: &mut [u8],
-    line: &mut [u8],
-    both: &mut [u8],
-    output: &mut [u8],
-    state: &mut [u8; STATE],
-) {
-    register_map::rebuild_begin(state);
-    let mut turns = u64::MAX;
-    let mut at = 0;
-    let mut end = 0;
-    let mut sizes = Sizes {
-        store: 0,
-        other: 0,
-        output: 0,
-    };
-    while turns > 0 {
-        turns -= 1;
-        let got = read_line(rt, chunk, line, at, end);
-        if !got.any {
+// Answers line after line. A loop has to end, and nothing says that the input does: it counts its turns, up to a number that no run comes to.
+pub(crate) fn run(rt: &HostRuntime, input: &mut Input, line: &mut [u8], driver: &mut Driver) {
+    for _ in 0..u64::MAX {
+        let Some(n) = input.read_line(rt, line) else {
             return;
-        }
-        at = got.at;
-        end = got.end;
-        sizes = turn(line, got.len, both, output, state, sizes);
+        };
+        let end = within(n, line);
+        driver.turn(&mut line[..end]);
         if is_unread() {
             return;
         }

@@ -7,30 +7,26 @@
 // end (Q-8), tocbor, fromcbor (Q-9), replay (Q-12), and swap, diff (Q-3). 4 is by the rule of Q-7.
 #![tactic(auto)]
 
-mod asked;
 mod input;
 mod lines;
 mod names;
 mod reply;
 mod words;
 
+use crate::input::Input;
+use crate::lines::Driver;
 use std::process::ExitCode;
 use text::print::{UNREAD, is_unread};
 
 fn main(rt: HostRuntime) -> ExitCode {
-    let mut chunk = [0u8; 65_536];
+    // All its memory is fixed, as that of the library is: there is no heap.
+    let mut input = Input::new();
     let mut line = [0u8; 320_000];
-    let mut both = [0u8; 307_216];
+    let mut store = [0u8; 153_608];
+    let mut other = [0u8; 153_608];
     let mut output = [0u8; 131_072];
-    let mut state = [0u8; parts::STATE];
-    lines::run(
-        &rt,
-        &mut chunk,
-        &mut line,
-        &mut both,
-        &mut output,
-        &mut state,
-    );
+    let mut driver = Driver::new(&mut store, &mut other, &mut output);
+    lines::run(&rt, &mut input, &mut line, &mut driver);
     // A reader that stopped ends it as the system would.
     if is_unread() {
         return ExitCode::from(UNREAD);

@@ -1,163 +1,147 @@
 // The calls, parted by what they need of the driver, and the words that name them.
-use crate::words::place;
+use crate::words::unhex;
+use text::hex::decimal;
 
 // Sets the driver's own bytes; answers `ok`.
 #[derive(Clone, Copy)]
-pub(crate) enum Setup {
-    Buffer,
-    Load,
-    Poke,
-    Room,
+pub(crate) enum Setup<'a> {
+    Buffer(u64),
+    Load(&'a [u8]),
+    Poke(u64, &'a [u8]),
+    Room(u64),
 }
 
 // Changes the store.
 #[derive(Clone, Copy)]
-pub(crate) enum Change {
-    Create,
-    Insert,
-    Modify,
-    Delete,
+pub(crate) enum Change<'a> {
+    Create(u64),
+    Insert(&'a [u8], &'a [u8]),
+    Modify(&'a [u8], &'a [u8]),
+    Delete(&'a [u8]),
 }
 
 // A rebuild in parts.
 #[derive(Clone, Copy)]
-pub(crate) enum Feed {
+pub(crate) enum Feed<'a> {
     Begin,
-    Part,
+    Part(&'a [u8]),
     End,
 }
 
 // Reads the store, or no store at all.
 #[derive(Clone, Copy)]
-pub(crate) enum Ask {
-    Get,
+pub(crate) enum Ask<'a> {
+    Get(&'a [u8]),
     First,
-    Next,
+    Next(&'a [u8]),
     Count,
     Empty,
     Root,
-    Rebuild,
-    Lookup,
-    Hash,
+    Rebuild(&'a [u8]),
+    Lookup(&'a [u8], &'a [u8]),
+    Hash(&'a [u8]),
     Store,
     Sum,
 }
 
-// Writes into the output: a witness of the store, or of two witnesses, or the other form of one.
+// Writes into the output: a witness of the store, or of two witnesses, or the other form of one; or what differs from the other store.
 #[derive(Clone, Copy)]
-pub(crate) enum Show {
+pub(crate) enum Show<'a> {
     Full,
     Keys,
-    Witness,
-    KeyRange,
-    ValueRange,
-    Prefix,
-    Merge,
-    ToCbor,
-    FromCbor,
-}
-
-// About the store and the other.
-#[derive(Clone, Copy)]
-pub(crate) enum Two {
-    Swap,
+    Witness(&'a [u8]),
+    KeyRange(&'a [u8], &'a [u8]),
+    ValueRange(&'a [u8], &'a [u8]),
+    Prefix(&'a [u8]),
+    Merge(&'a [u8], &'a [u8]),
+    ToCbor(&'a [u8]),
+    FromCbor(&'a [u8]),
     Diff,
 }
 
+// What a line asks for.
 #[derive(Clone, Copy)]
-pub(crate) enum Call {
-    Setup(Setup),
-    Change(Change),
-    Ask(Ask),
-    Show(Show),
-    Feed(Feed),
-    Replay,
-    Two(Two),
-    Unknown,
+pub(crate) enum Call<'a> {
+    Setup(Setup<'a>),
+    Change(Change<'a>),
+    Ask(Ask<'a>),
+    Show(Show<'a>),
+    Feed(Feed<'a>),
+    Replay(&'a [u8]),
+    Swap,
 }
 
 // A line of this word alone.
-fn alone(name: &[u8]) -> Call {
-    match place(
-        name,
-        b"first count empty root store sum full keys begin end swap diff",
-    ) {
-        0 => Call::Ask(Ask::First),
-        1 => Call::Ask(Ask::Count),
-        2 => Call::Ask(Ask::Empty),
-        3 => Call::Ask(Ask::Root),
-        4 => Call::Ask(Ask::Store),
-        5 => Call::Ask(Ask::Sum),
-        6 => Call::Show(Show::Full),
-        7 => Call::Show(Show::Keys),
-        8 => Call::Feed(Feed::Begin),
-        9 => Call::Feed(Feed::End),
-        10 => Call::Two(Two::Swap),
-        11 => Call::Two(Two::Diff),
-        _ => Call::Unknown,
-    }
+fn alone(name: &[u8]) -> Option<Call<'static>> {
+    let call = match name {
+        b"first" => Call::Ask(Ask::First),
+        b"count" => Call::Ask(Ask::Count),
+        b"empty" => Call::Ask(Ask::Empty),
+        b"root" => Call::Ask(Ask::Root),
+        b"store" => Call::Ask(Ask::Store),
+        b"sum" => Call::Ask(Ask::Sum),
+        b"full" => Call::Show(Show::Full),
+        b"keys" => Call::Show(Show::Keys),
+        b"diff" => Call::Show(Show::Diff),
+        b"begin" => Call::Feed(Feed::Begin),
+        b"end" => Call::Feed(Feed::End),
+        b"swap" => Call::Swap,
+        _ => return None,
+    };
+    Some(call)
 }
 
-// This word and another.
-fn with_one(name: &[u8]) -> Call {
-    match place(
-        name,
-        b"buffer room load create delete get next rebuild hash witness prefix part replay tocbor fromcbor",
-    ) {
-        0 => Call::Setup(Setup::Buffer),
-        1 => Call::Setup(Setup::Room),
-        2 => Call::Setup(Setup::Load),
-        3 => Call::Change(Change::Create),
-        4 => Call::Change(Change::Delete),
-        5 => Call::Ask(Ask::Get),
-        6 => Call::Ask(Ask::Next),
-        7 => Call::Ask(Ask::Rebuild),
-        8 => Call::Ask(Ask::Hash),
-        9 => Call::Show(Show::Witness),
-        10 => Call::Show(Show::Prefix),
-        11 => Call::Feed(Feed::Part),
-        12 => Call::Replay,
-        13 => Call::Show(Show::ToCbor),
-        14 => Call::Show(Show::FromCbor),
-        _ => Call::Unknown,
-    }
+// This word and another: a number or bytes.
+fn with_one<'a>(name: &[u8], word: &'a mut [u8]) -> Option<Call<'a>> {
+    let call = match name {
+        b"buffer" => Call::Setup(Setup::Buffer(decimal(word)?)),
+        b"room" => Call::Setup(Setup::Room(decimal(word)?)),
+        b"create" => Call::Change(Change::Create(decimal(word)?)),
+        b"load" => Call::Setup(Setup::Load(unhex(word)?)),
+        b"delete" => Call::Change(Change::Delete(unhex(word)?)),
+        b"get" => Call::Ask(Ask::Get(unhex(word)?)),
+        b"next" => Call::Ask(Ask::Next(unhex(word)?)),
+        b"rebuild" => Call::Ask(Ask::Rebuild(unhex(word)?)),
+        b"hash" => Call::Ask(Ask::Hash(unhex(word)?)),
+        b"witness" => Call::Show(Show::Witness(unhex(word)?)),
+        b"prefix" => Call::Show(Show::Prefix(unhex(word)?)),
+        b"tocbor" => Call::Show(Show::ToCbor(unhex(word)?)),
+        b"fromcbor" => Call::Show(Show::FromCbor(unhex(word)?)),
+        b"part" => Call::Feed(Feed::Part(unhex(word)?)),
+        b"replay" => Call::Replay(unhex(word)?),
+        _ => return None,
+    };
+    Some(call)
 }
 
-// This word and two more.
-fn with_two(name: &[u8]) -> Call {
-    match place(name, b"poke insert modify krange vrange ask merge") {
-        0 => Call::Setup(Setup::Poke),
-        1 => Call::Change(Change::Insert),
-        2 => Call::Change(Change::Modify),
-        3 => Call::Show(Show::KeyRange),
-        4 => Call::Show(Show::ValueRange),
-        5 => Call::Ask(Ask::Lookup),
-        6 => Call::Show(Show::Merge),
-        _ => Call::Unknown,
-    }
+// This word and two more: a number or bytes, and bytes.
+fn with_two<'a>(name: &[u8], word: &'a mut [u8], last: &'a mut [u8]) -> Option<Call<'a>> {
+    let b = unhex(last)?;
+    let call = match name {
+        b"poke" => Call::Setup(Setup::Poke(decimal(word)?, b)),
+        b"insert" => Call::Change(Change::Insert(unhex(word)?, b)),
+        b"modify" => Call::Change(Change::Modify(unhex(word)?, b)),
+        b"krange" => Call::Show(Show::KeyRange(unhex(word)?, b)),
+        b"vrange" => Call::Show(Show::ValueRange(unhex(word)?, b)),
+        b"ask" => Call::Ask(Ask::Lookup(unhex(word)?, b)),
+        b"merge" => Call::Show(Show::Merge(unhex(word)?, b)),
+        _ => return None,
+    };
+    Some(call)
 }
 
-// The call that a line of so many words names by its first.
-pub(crate) fn named(name: &[u8], words: usize) -> Call {
-    match words {
-        1 => alone(name),
-        2 => with_one(name),
-        3 => with_two(name),
-        _ => Call::Unknown,
+// What a line asks for, if it is one that is known, with good hex and numbers that fit. Bytes stand in it in place of their hex then.
+pub(crate) fn call_of(line: &mut [u8]) -> Option<Call<'_>> {
+    let mut words = line.split_mut(|b| *b == b' ');
+    let name = words.next()?;
+    let Some(word) = words.next() else {
+        return alone(name);
+    };
+    let Some(last) = words.next() else {
+        return with_one(name, word);
+    };
+    if words.next().is_some() {
+        return None;
     }
-}
-
-// Whether the word after the name is a number, and not bytes.
-pub(crate) fn takes_number(call: Call) -> bool {
-    match call {
-        Call::Setup(which) => match which {
-            Setup::Load => false,
-            _ => true,
-        },
-        Call::Change(which) => match which {
-            Change::Create => true,
-            _ => false,
-        },
-        _ => false,
-    }
+    with_two(name, word, last)
 }

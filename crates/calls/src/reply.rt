@@ -1,9 +1,10 @@
 // Lines of answer, on standard output.
-use answers::{Found, Saved};
-use lookup::{Looked, LookedUp};
+use answers::Refusal;
+use lookup::Looked;
 use replay::Replayed;
+use search::Place;
 use text::print::{say, say_hex};
-use text::words::within;
+use text::words::part;
 
 // ---- parts of a line
 
@@ -31,6 +32,20 @@ fn end() {
     put(b"\n");
 }
 
+// Puts the number of an answer, and gives what it holds; `none`, where it is refused.
+fn held<T: Copy>(answer: Result<T, Refusal>, none: T) -> T {
+    match answer {
+        Ok(value) => {
+            number(0);
+            value
+        }
+        Err(refusal) => {
+            number(refusal.number());
+            none
+        }
+    }
+}
+
 // ---- lines
 
 pub(crate) fn say_ok() {
@@ -42,57 +57,59 @@ pub(crate) fn say_unknown() {
     put(b"?\n");
 }
 
-pub(crate) fn say_number(n: usize) {
-    number(n);
+pub(crate) fn say_done(answer: Result<(), Refusal>) {
+    held(answer, ());
     end();
 }
 
-pub(crate) fn say_count(n: usize, count: usize) {
-    number(n);
-    next(count);
+pub(crate) fn say_count(answer: Result<usize, Refusal>) {
+    next(held(answer, 0));
     end();
 }
 
 // How many records found no room, and how many no entry of their key.
-pub(crate) fn say_replayed(r: Replayed) {
-    number(r.number);
-    next(r.full);
-    next(r.absent);
+pub(crate) fn say_replayed(answer: Result<Replayed, Refusal>) {
+    let ran = held(answer, Replayed { full: 0, absent: 0 });
+    next(ran.full);
+    next(ran.absent);
     end();
 }
 
-pub(crate) fn say_whether(n: usize, yes: bool) {
-    number(n);
-    if yes {
-        put(b" yes\n");
-        return;
-    }
-    put(b" no\n");
+pub(crate) fn say_whether(answer: Result<bool, Refusal>) {
+    put(if held(answer, false) {
+        b" yes\n"
+    } else {
+        b" no\n"
+    });
 }
 
-pub(crate) fn say_found(f: Found) {
-    number(f.number);
-    next(f.key_at);
-    next(f.key_length);
-    next(f.value_at);
-    next(f.value_length);
+pub(crate) fn say_found(answer: Result<Place, Refusal>) {
+    let nowhere = Place {
+        key_at: 0,
+        key_length: 0,
+        value_at: 0,
+        value_length: 0,
+    };
+    let place = held(answer, nowhere);
+    next(place.key_at);
+    next(place.key_length);
+    next(place.value_at);
+    next(place.value_length);
     end();
 }
 
 // What a witness says of a key, and where the child of its label lies.
-pub(crate) fn say_looked(r: LookedUp) {
-    number(r.number);
-    let looked = r.looked;
-    match looked {
-        Looked::Found { at, length } => {
+pub(crate) fn say_looked(answer: Result<Looked, Refusal>) {
+    match held(answer.map(Some), None) {
+        Some(Looked::Found { at, length }) => {
             put(b" found");
             next(at);
             next(length);
             end();
         }
-        Looked::Absent => put(b" absent 0 0\n"),
-        Looked::Unknown => put(b" unknown 0 0\n"),
-        Looked::Nothing => put(b" refused 0 0\n"),
+        Some(Looked::Absent) => put(b" absent 0 0\n"),
+        Some(Looked::Unknown) => put(b" unknown 0 0\n"),
+        None => put(b" refused 0 0\n"),
     }
 }
 
@@ -101,19 +118,18 @@ pub(crate) fn say_bytes(s: &[u8]) {
     end();
 }
 
-pub(crate) fn say_digest(n: usize, digest: [u8; 32]) {
-    number(n);
+pub(crate) fn say_digest(answer: Result<[u8; 32], Refusal>) {
+    let digest = held(answer, [0u8; 32]);
     put(b" ");
     say_bytes(&digest);
 }
 
 // A witness, and how many bytes past it are touched.
-pub(crate) fn say_witness(r: Saved, output: &[u8], touched: usize) {
-    number(r.number);
-    next(r.size);
+pub(crate) fn say_witness(answer: Result<usize, Refusal>, output: &[u8], touched: usize) {
+    let size = held(answer, 0);
+    next(size);
     put(b" ");
-    let size = within(r.size, output);
-    hex(&output[..size]);
+    hex(part(output, 0, size));
     next(touched);
     end();
 }

@@ -1,23 +1,19 @@
 -- What the walks' answers say of the whole call, over plain lists.
-use Prim.Native.Nat.{ℕ, ◌+◌, ◌<◌, ◌≤◌}
+use Prim.Native.Nat.{ℕ, ◌-◌, ◌<◌, ◌≤◌}
 use mathlib.Core.Path.{◌≡◌, refl, sym, ap, ◌∙◌}
-use mathlib.Core.Bool.{true, false}
 use mathlib.Core.List.{List, [], ◌∷◌, ◌++◌}
 use native.Mathlib.Omega.{arith}
-use native.Mathlib.Numerals.{add-one}
 use lib.ListN.{length, length-append}
 use borrow.Author.Tests.{lt-ltb, le-ltb}
-use Rattle.answers.specs.Numbers.{Refusal, number_of, Malformed, NotCbor}
-use Rattle.answers.specs.Answers.{unwritten}
-use Rattle.answers.specs.declared.Saved.{Saved}
+use Rattle.answers.specs.declared.Refusal.{Refusal}
+use Rattle.answers.specs.declared.Refusal.TheVariants.{Malformed, NotCbor, NoRoom}
+use Rattle.std.specs.Prelude.{Some, None, Ok, Err}
 use Rattle.hash_tree.specs.HashTree.{HashTree}
 use Rattle.hash_tree.specs.Written.{write, max_depth}
 use Rattle.hash_tree.specs.Parse.{Parsed, Got, Bad, Bytes}
 use Rattle.hash_tree.specs.Form.{Form, write_by, parse_by, written}
 use Rattle.hash_tree.proofs.Forms.{parsed-written}
 use Rattle.hash_tree.proofs.ParseLaws.{parse-by, write-by}
-use Rattle.output.specs.declared.Room.{Room}
-use Rattle.output.specs.declared.Room.TheVariants.{Left, Short}
 use Rattle.output.specs.Putting.{Puts, room_after}
 use Rattle.output.proofs.Putting.{puts-front, room-left, room-short}
 use Rattle.cbor.specs.declared.Way.{Way}
@@ -25,79 +21,73 @@ use Rattle.cbor.specs.declared.Way.TheVariants.{Writing, Reading}
 use Rattle.cbor.specs.declared.Met.{Met}
 use Rattle.cbor.specs.Cbor.{cbor_form, cbor}
 use Rattle.cbor.specs.Answer.{answered, put_front, anew, cbor_written, cbor_read}
-use Rattle.cbor.specs.Walks.{source, target, refusal_of, source_of, exchanged, code_of, room_of, met_of, CanPut, Wrote}
-use Rattle.cbor.proofs.Judging.{opens, no_true}
+use Rattle.cbor.specs.Walks.{source, target, refusal_of, source_of, exchanged, met_of, CanPut, Wrote}
+use Rattle.cbor.proofs.Judging.{opens}
 
-front-short : (o w : List ℕ) → length o < length w → answered (record { number = 6; size = 0 }) o ≡ put_front o w
+front-short : (o w : List ℕ) → length o < length w → answered (Err NoRoom) o ≡ put_front o w
 front-short o w h = rw (lt-ltb (length o) (length w) h)
 
-front-put : (o o' : List ℕ) (k : ℕ) (w : List ℕ) → length w ≤ length o → Puts o o' 0 k w → answered (record { number = 0; size = k }) o' ≡ put_front o w
+front-put : (o o' : List ℕ) (k : ℕ) (w : List ℕ) → length w ≤ length o → Puts o o' 0 k w → answered (Ok k) o' ≡ put_front o w
 front-put o o' k w h p =
     let q = puts-front w h p in
     rw (le-ltb (length o) (length w) h) (λ i. record { number = 0; size = q.0 i; output = q.1 i })
 
-code-short : (r : Room) → code_of r ≡ 0 → r ≡ Short
-code-short Short e = refl
-code-short (Left m) e = absurd (omega arith)
+module _ (n : Refusal) (g : Form) (o s : List ℕ) where
+  refused-bad : (z : Parsed) → None ≡ met_of (length s) g (Some (length o)) z → answered (Err n) o ≡ anew n (write_by g) o z
+  refused-bad (Got t rest) i = cc
+  refused-bad Bad i = refl
 
-code-left : (r : Room) → (code_of r ≡ 0 → ⊥) → (k : ℕ) × (r ≡ Left k)
-code-left Short f = absurd (f refl)
-code-left (Left m) f = (m, refl)
+  module _ (m : Met) where
+    after : (t : HashTree) (rest : List ℕ) → Some m ≡ met_of (length s) g (Some (length o)) (Got t rest) → (m.next ≡ length s - length rest) × (m.room ≡ room_after (length (write_by g t)) (Some (length o)))
+    after t rest i =
+        let f : m ≡ record { next = length s - length rest; room = room_after (length (write_by g t)) (Some (length o)) } = cc in
+        (ap (λ (x : Met). x.next) f, ap (λ (x : Met). x.room) f)
 
-module _ (n : Refusal) (g : Form) (o : List ℕ) (m : Met) (s : List ℕ) where
-  refused-bad : (r : Saved) (z : Parsed) → r ≡ unwritten (number_of n) → m ≡ met_of (length s) g (Left (length o)) z → m.ok ≡ false → answered r o ≡ anew n (write_by g) o z
-  refused-bad r (Got t rest) e i f = let y : true ≡ false = cc in absurd (no_true y)
-  refused-bad r Bad e i f = rw e
+    refused-more : (z : Parsed) → Some m ≡ met_of (length s) g (Some (length o)) z → (m.next ≡ length s → ⊥) → answered (Err n) o ≡ anew n (write_by g) o z
+    refused-more (Got t []) i f = absurd (f (omega (arith, (after t [] i).0)))
+    refused-more (Got t (x ∷ rest)) i f = refl
+    refused-more Bad i f = refl
 
-  refused-more : (r : Saved) (z : Parsed) → r ≡ unwritten (number_of n) → m ≡ met_of (length s) g (Left (length o)) z → m.next < length s → answered r o ≡ anew n (write_by g) o z
-  refused-more r (Got t []) e i f = absurd (omega (arith, ap (λ (x : Met). x.next) i))
-  refused-more r (Got t (x ∷ rest)) e i f = rw e
-  refused-more r Bad e i f = rw e
+    -- nothing is left
+    module _ (whole : length s ≤ m.next) where
+      short-by : (z : Parsed) → ((t : HashTree) (rest : List ℕ) → z ≡ Got t rest → length rest ≤ length s) → Some m ≡ met_of (length s) g (Some (length o)) z → m.room ≡ None
+          → answered (Err NoRoom) o ≡ anew n (write_by g) o z
+      short-by (Got t []) l i f = front-short o (write_by g t) (room-short (length (write_by g t)) (length o) (sym (after t [] i).1 ∙ f))
+      short-by (Got t (x ∷ rest)) l i f = absurd (omega (arith, l t (x ∷ rest) refl, (after t (x ∷ rest) i).0))
+      short-by Bad l i f = cc
 
-  -- nothing is left
-  module _ (whole : length s ≤ m.next) (ok : m.ok ≡ true) where
-    short-by : (z : Parsed) → ((t : HashTree) (rest : List ℕ) → z ≡ Got t rest → length rest ≤ length s) → m ≡ met_of (length s) g (Left (length o)) z → m.room ≡ 0
-        → answered (record { number = 6; size = 0 }) o ≡ anew n (write_by g) o z
-    short-by (Got t []) l i f = front-short o (write_by g t) (room-short (length (write_by g t)) (length o) (code-short (room_after (length (write_by g t)) (Left (length o))) (sym (ap (λ (x : Met). x.room) i) ∙ f)))
-    short-by (Got t (x ∷ rest)) l i f = absurd (omega (arith, l t (x ∷ rest) refl, ap (λ (y : Met). y.next) i))
-    short-by Bad l i f = let y : true ≡ false = cc in absurd (no_true y)
+      can-by : (z : Parsed) → ((t : HashTree) (rest : List ℕ) → z ≡ Got t rest → length rest ≤ length s) → Some m ≡ met_of (length s) g (Some (length o)) z → (k : ℕ) → m.room ≡ Some k → CanPut g o z
+      can-by (Got t []) l i k f = room-left (length (write_by g t)) (length o) k (sym (after t [] i).1 ∙ f)
+      can-by (Got t (x ∷ rest)) l i k f = absurd (omega (arith, l t (x ∷ rest) refl, (after t (x ∷ rest) i).0))
+      can-by Bad l i k f = cc
 
-    can-by : (z : Parsed) → ((t : HashTree) (rest : List ℕ) → z ≡ Got t rest → length rest ≤ length s) → m ≡ met_of (length s) g (Left (length o)) z → (m.room ≡ 0 → ⊥) → CanPut g o z
-    can-by (Got t []) l i f =
-        let w = code-left (room_after (length (write_by g t)) (Left (length o))) (λ e. f (ap (λ (x : Met). x.room) i ∙ e)) in
-        room-left (length (write_by g t)) (length o) w.0 w.1
-    can-by (Got t (x ∷ rest)) l i f = absurd (omega (arith, l t (x ∷ rest) refl, ap (λ (y : Met). y.next) i))
-    can-by Bad l i f = let y : true ≡ false = cc in absurd (no_true y)
-
-  put-by : (o' : List ℕ) (k : ℕ) (z : Parsed) → CanPut g o z → Wrote g o o' k z → answered (record { number = 0; size = k }) o' ≡ anew n (write_by g) o z
+  put-by : (o' : List ℕ) (k : ℕ) (z : Parsed) → CanPut g o z → Wrote g o o' k z → answered (Ok k) o' ≡ anew n (write_by g) o z
   put-by o' k (Got t []) c w = front-put o o' k (write_by g t) c w
   put-by o' k (Got t (x ∷ rest)) c w = absurd c
   put-by o' k Bad c w = absurd c
 
-module _ (way : Way) (s o : List ℕ) (bs : Bytes s) (m : Met) (judged : m ≡ met_of (length s) (target way) (room_of (length o + 1)) (source_of way s)) where
-  met : m ≡ met_of (length s) (target way) (Left (length o)) (source_of way s)
-  met = rw (add-one (length o)) at judged
-
+module _ (way : Way) (s o : List ℕ) (bs : Bytes s) where
   rest-fits : (t : HashTree) (rest : List ℕ) → source_of way s ≡ Got t rest → length rest ≤ length s
   rest-fits t rest e =
       let w : s ≡ write_by (source way) t ++ rest = (rw e at (parsed-written (source way) (opens way) max_depth s bs)).0 in
       omega (arith, ap length w, length-append (write_by (source way) t) rest)
 
-  pub not-a-tree : (r : Saved) → r ≡ unwritten (number_of (refusal_of way)) → m.ok ≡ false → answered r o ≡ exchanged way s o
-  not-a-tree r e f = refused-bad (refusal_of way) (target way) o m s r (source_of way s) e met f
+  pub not-a-tree : None ≡ met_of (length s) (target way) (Some (length o)) (source_of way s) → answered (Err (refusal_of way)) o ≡ exchanged way s o
+  not-a-tree met = refused-bad (refusal_of way) (target way) o s (source_of way s) met
 
-  pub more-than-one : (r : Saved) → r ≡ unwritten (number_of (refusal_of way)) → m.next < length s → answered r o ≡ exchanged way s o
-  more-than-one r e f = refused-more (refusal_of way) (target way) o m s r (source_of way s) e met f
+  module _ (m : Met) (met : Some m ≡ met_of (length s) (target way) (Some (length o)) (source_of way s)) where
+    pub more-than-one : (m.next ≡ length s → ⊥) → answered (Err (refusal_of way)) o ≡ exchanged way s o
+    more-than-one f = refused-more (refusal_of way) (target way) o s m (source_of way s) met f
 
-  module _ (ok : m.ok ≡ true) (whole : length s ≤ m.next) where
-    pub no_room : m.room ≡ 0 → answered (record { number = 6; size = 0 }) o ≡ exchanged way s o
-    no_room f = short-by (refusal_of way) (target way) o m s whole ok (source_of way s) rest-fits met f
+    module _ (whole : length s ≤ m.next) where
+      pub no_room : m.room ≡ None → answered (Err NoRoom) o ≡ exchanged way s o
+      no_room f = short-by (refusal_of way) (target way) o s m whole (source_of way s) rest-fits met f
 
-    pub can-put : (m.room ≡ 0 → ⊥) → CanPut (target way) o (source_of way s)
-    can-put f = can-by (refusal_of way) (target way) o m s whole ok (source_of way s) rest-fits met f
+      pub can-put : (k : ℕ) → m.room ≡ Some k → CanPut (target way) o (source_of way s)
+      can-put k f = can-by (refusal_of way) (target way) o s m whole (source_of way s) rest-fits met k f
 
-    pub was-put : (size : ℕ) (o' : List ℕ) → (m.room ≡ 0 → ⊥) → Wrote (target way) o o' size (source_of way s) → answered (record { number = 0; size = size }) o' ≡ exchanged way s o
-    was-put size o' f w = put-by (refusal_of way) (target way) o m s o' size (source_of way s) (can-put f) w
+      pub was-put : (size : ℕ) (o' : List ℕ) (k : ℕ) → m.room ≡ Some k → Wrote (target way) o o' size (source_of way s) → answered (Ok size) o' ≡ exchanged way s o
+      was-put size o' k f w = put-by (refusal_of way) (target way) o s o' size (source_of way s) (can-put k f) w
 
 -- ---- the two ways are the two calls
 

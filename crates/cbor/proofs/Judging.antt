@@ -1,15 +1,14 @@
 -- What the walk that judges finds, by the record at its place, over plain lists.
 use Prim.Native.Nat.{ℕ, zero, suc, ◌+◌, ◌-◌, ◌<◌, ◌≤◌}
-use mathlib.Core.Path.{◌≡◌, refl, sym, ap, subst, ◌∙◌}
-use mathlib.Core.Bool.{true, false}
+use mathlib.Core.Path.{◌≡◌, refl, sym, ap, ◌∙◌}
 use mathlib.Core.List.{List, [], ◌∷◌, ◌++◌}
 use native.Mathlib.Omega.{arith}
 use native.Mathlib.Numerals.{sub-one}
 use native.Mathlib.Nat.{not-suc-le-zero}
+use Rattle.std.specs.Prelude.{Option, Some, None}
 use lib.ListN.{length, take, drop, length-append, length-drop}
 use lib.Seq.{drop-drop, drop_at, length-take-le}
-use lib.Dec.{T}
-use borrow.Author.Tests.{le-leb, lt-leb}
+use borrow.Author.Tests.{lt-leb}
 use Rattle.hash_tree.specs.HashTree.{HashTree, Fork, Labeled}
 use Rattle.hash_tree.specs.Record.{most}
 use Rattle.hash_tree.specs.Parse.{Parsed, Got, Bad, by_kind, labeled, forked, fork, Bytes}
@@ -17,14 +16,12 @@ use Rattle.hash_tree.specs.Form.{Front, Taken, Shut, Form, Fits, write_by, parse
 use Rattle.hash_tree.proofs.Forms.{Opening, parsed-written}
 use Rattle.hash_tree.proofs.Lawfulness.{bytes_drop}
 use Rattle.hash_tree.proofs.ParseLaws as written-laws
-use Rattle.output.specs.declared.Room.{Room}
-use Rattle.output.specs.declared.Room.TheVariants.{Left, Short}
 use Rattle.output.specs.Putting.{room_after}
 use Rattle.output.proofs.Putting.{room-then}
 use Rattle.cbor.specs.declared.Way.{Way}
 use Rattle.cbor.specs.declared.Way.TheVariants.{Writing, Reading}
 use Rattle.cbor.specs.declared.Met.{Met}
-use Rattle.cbor.specs.Walks.{source, target, Lies, Takes, code_of, room_of, stopped, met_of}
+use Rattle.cbor.specs.Walks.{source, target, Lies, Takes, met_of}
 use Rattle.cbor.proofs.Opens as cbor-laws
 use Rattle.cbor.proofs.Sizes.{own-most}
 
@@ -32,36 +29,19 @@ pub opens : (way : Way) → Opening (source way)
 opens Writing = written-laws.opening
 opens Reading = cbor-laws.opening
 
-pub no_true : true ≡ false → ⊥
-no_true e = subst T e tt
-
 nil-of : (y : List ℕ) → length y ≡ 0 → y ≡ []
 nil-of [] e = refl
 nil-of (i ∷ y) e = absurd (omega (arith, e))
 
--- ---- room, as a number
-
-pub room-code : (r : Room) → room_of (code_of r) ≡ r
-room-code Short = refl
-room-code (Left m) = refl
-
-pub less-fits : (room n : ℕ) → n < room → room - n ≡ code_of (room_after n (room_of room))
-less-fits zero n h = absurd (omega arith)
-less-fits (suc m) n h = rw (le-leb n m (omega arith)) (omega arith)
-
-pub less-short : (room n : ℕ) → room ≤ n → 0 ≡ code_of (room_after n (room_of room))
-less-short zero n h = refl
-less-short (suc m) n h = rw (lt-leb n m (omega arith))
-
 -- ---- by the kind of a record, for any two forms
 
-module _ (n : ℕ) (g : Form) (room : Room) where
-  pub met-bad : (q : Met) (z : Parsed) → q ≡ stopped → z ≡ Bad → q ≡ met_of n g room z
-  met-bad q z e f = rw (e, f)
+module _ (n : ℕ) (g : Form) (room : Option ℕ) where
+  pub met-bad : (z : Parsed) → z ≡ Bad → None ≡ met_of n g room z
+  met-bad z f = rw f
 
-  pub fork-bad : (p : List ℕ → Parsed) (r : Room) (l q : Met) (z : Parsed) → l ≡ met_of n g r z → l.ok ≡ false → q ≡ stopped → q ≡ met_of n g room (fork p z)
-  fork-bad p r l q (Got t rest) e f h = let y : true ≡ false = cc in absurd (no_true y)
-  fork-bad p r l q Bad e f h = h
+  pub fork-bad : (p : List ℕ → Parsed) (r : Option ℕ) (z : Parsed) → None ≡ met_of n g r z → None ≡ met_of n g room (fork p z)
+  fork-bad p r (Got t rest) e = cc
+  fork-bad p r Bad e = refl
 
   forked-met : (l : HashTree) (m : ℕ) (z : Parsed) → m ≡ length (g.put 1 []) → met_of n g (room_after (length (write_by g l)) (room_after m room)) z ≡ met_of n g room (forked l z)
   forked-met l m (Got r rest) e =
@@ -72,14 +52,15 @@ module _ (n : ℕ) (g : Form) (room : Room) where
   forked-met l m Bad e = refl
 
   -- what is left of s after the first child is s from the place on that the walk found
-  pub fork-met : (s : List ℕ) (p : List ℕ → Parsed) (m : ℕ) (l q : Met) (z : Parsed) → n ≡ length s → ((t : HashTree) (rest : List ℕ) → z ≡ Got t rest → drop (n - length rest) s ≡ rest) → m ≡ length (g.put 1 [])
-      → l ≡ met_of n g (room_after m room) z → l.ok ≡ true → q ≡ met_of n g (room_of l.room) (p (drop l.next s)) → q ≡ met_of n g room (fork p z)
-  fork-met s p m l q (Got t rest) en b em e f h =
-      let x : l.next ≡ n - length rest = ap (λ (y : Met). y.next) e in
-      let y : room_of l.room ≡ room_after (length (write_by g t)) (room_after m room) = ap (λ (y : Met). room_of y.room) e ∙ room-code (room_after (length (write_by g t)) (room_after m room)) in
+  pub fork-met : (s : List ℕ) (p : List ℕ → Parsed) (m : ℕ) (l : Met) (q : Option Met) (z : Parsed) → n ≡ length s → ((t : HashTree) (rest : List ℕ) → z ≡ Got t rest → drop (n - length rest) s ≡ rest) → m ≡ length (g.put 1 [])
+      → Some l ≡ met_of n g (room_after m room) z → q ≡ met_of n g l.room (p (drop l.next s)) → q ≡ met_of n g room (fork p z)
+  fork-met s p m l q (Got t rest) en b em e h =
+      let f : l ≡ record { next = n - length rest; room = room_after (length (write_by g t)) (room_after m room) } = cc in
+      let x : l.next ≡ n - length rest = ap (λ (y : Met). y.next) f in
+      let y : l.room ≡ room_after (length (write_by g t)) (room_after m room) = ap (λ (y : Met). y.room) f in
       let i : q ≡ met_of n g (room_after (length (write_by g t)) (room_after m room)) (p rest) = rw (x, y, b t rest refl) at h in
       i ∙ forked-met t m (p rest) em
-  fork-met s p m l q Bad en b em e f h = let y : true ≡ false = cc in absurd (no_true y)
+  fork-met s p m l q Bad en b em e h = cc
 
   pub labeled-met : (b : List ℕ) (m : ℕ) (z : Parsed) → m ≡ length (g.put 2 b) → met_of n g (room_after m room) z ≡ met_of n g room (labeled b z)
   labeled-met b m (Got t rest) e =
@@ -88,7 +69,7 @@ module _ (n : ℕ) (g : Form) (room : Room) where
   labeled-met b m Bad e = refl
 
   pub single-met : (p : List ℕ → Parsed) (k m x : ℕ) (b r : List ℕ) → Fits k b → (k ≡ 1 → ⊥) → (k ≡ 2 → ⊥) → m ≡ length (g.put k b) → x ≡ n - length r
-      → record { ok = true; next = x; room = code_of (room_after m room) } ≡ met_of n g room (by_kind p k b r)
+      → Some (record { next = x; room = room_after m room }) ≡ met_of n g room (by_kind p k b r)
   unfolding most
   single-met p zero m x [] r h h₁ h₂ e f = rw (e, f)
   single-met p zero m x (y ∷ b) r h h₁ h₂ e f = absurd (not-suc-le-zero h.high)
@@ -128,8 +109,13 @@ lies-length s k start len f h = length-take-le len (drop start s) (omega (arith,
 pub lies-most : (s : List ℕ) (k start len : ℕ) (f : Front) → Lies s k start len f → len ≤ 64
 lies-most s k start len f h = omega (arith, lies-length s k start len f h, h.lawful.high, own-most k)
 
-module _ (way : Way) (s : List ℕ) (at d k start len m : ℕ) (room : Room) (pos : d ≡ 0 → ⊥) (h : Lies s k start len ((source way).front (drop at s))) (takes : Takes way k len m) where
-  abbrev Answers : Met → Type 0
+-- a room that is short, or too small, is short after n bytes
+pub less-short : (room : Option ℕ) (n : ℕ) → ((m : ℕ) → room ≡ Some m → m < n) → None ≡ room_after n room
+less-short None n h = refl
+less-short (Some m) n h = rw (lt-leb n m (h m refl))
+
+module _ (way : Way) (s : List ℕ) (at d k start len m : ℕ) (room : Option ℕ) (pos : d ≡ 0 → ⊥) (h : Lies s k start len ((source way).front (drop at s))) (takes : Takes way k len m) where
+  abbrev Answers : Option Met → Type 0
   Answers q = q ≡ met_of (length s) (target way) room (parse_by (source way) d (drop at s))
 
   abbrev bytes : List ℕ
@@ -152,22 +138,22 @@ module _ (way : Way) (s : List ℕ) (at d k start len m : ℕ) (room : Room) (po
     at_fork : parse_by (source way) d (drop at s) ≡ fork (parse_by (source way) (d - 1)) (parse_by (source way) (d - 1) (drop (start + len) s))
     at_fork = by-kind ∙ rw e
 
-    pub judged-fork-bad : (r : ℕ) (l q : Met) → l ≡ met_of (length s) (target way) (room_of r) (parse_by (source way) (d - 1) (drop (start + len) s)) → l.ok ≡ false → q ≡ stopped → Answers q
-    judged-fork-bad r l q i j x = rw at_fork (fork-bad (length s) (target way) room (parse_by (source way) (d - 1)) (room_of r) l q (parse_by (source way) (d - 1) (drop (start + len) s)) i j x)
+    pub judged-fork-bad : (r : Option ℕ) → None ≡ met_of (length s) (target way) r (parse_by (source way) (d - 1) (drop (start + len) s)) → Answers None
+    judged-fork-bad r i = rw at_fork (fork-bad (length s) (target way) room (parse_by (source way) (d - 1)) r (parse_by (source way) (d - 1) (drop (start + len) s)) i)
 
-    pub judged-fork : Bytes s → (r : ℕ) (l q : Met) → r ≡ code_of (room_after m room) → l ≡ met_of (length s) (target way) (room_of r) (parse_by (source way) (d - 1) (drop (start + len) s)) → l.ok ≡ true
-        → q ≡ met_of (length s) (target way) (room_of l.room) (parse_by (source way) (d - 1) (drop l.next s)) → Answers q
-    judged-fork bs r l q er i j x =
+    pub judged-fork : Bytes s → (r : Option ℕ) (l : Met) (q : Option Met) → r ≡ room_after m room → Some l ≡ met_of (length s) (target way) r (parse_by (source way) (d - 1) (drop (start + len) s))
+        → q ≡ met_of (length s) (target way) l.room (parse_by (source way) (d - 1) (drop l.next s)) → Answers q
+    judged-fork bs r l q er i x =
         rw at_fork
         (fork-met (length s) (target way) room s (parse_by (source way) (d - 1)) m l q (parse_by (source way) (d - 1) (drop (start + len) s)) refl
-        (left (source way) (opens way) s (d - 1) (start + len) bs h.within) fork-size (rw (er, room-code (room_after m room)) at i) j x)
+        (left (source way) (opens way) s (d - 1) (start + len) bs h.within) fork-size (rw er at i) x)
 
-  pub judged-labeled : k ≡ 2 → (r : ℕ) (q : Met) → r ≡ code_of (room_after m room) → q ≡ met_of (length s) (target way) (room_of r) (parse_by (source way) (d - 1) (drop (start + len) s)) → Answers q
+  pub judged-labeled : k ≡ 2 → (r : Option ℕ) (q : Option Met) → r ≡ room_after m room → q ≡ met_of (length s) (target way) r (parse_by (source way) (d - 1) (drop (start + len) s)) → Answers q
   judged-labeled e r q er i =
       let f : parse_by (source way) d (drop at s) ≡ labeled bytes (parse_by (source way) (d - 1) (drop (start + len) s)) = by-kind ∙ rw e in
-      i ∙ rw (er, room-code (room_after m room), f) (labeled-met (length s) (target way) room bytes m (parse_by (source way) (d - 1) (drop (start + len) s)) (rw e at size))
+      i ∙ rw (er, f) (labeled-met (length s) (target way) room bytes m (parse_by (source way) (d - 1) (drop (start + len) s)) (rw e at size))
 
-  pub judged-single : (k ≡ 1 → ⊥) → (k ≡ 2 → ⊥) → (r : ℕ) → r ≡ code_of (room_after m room) → Answers (record { ok = true; next = start + len; room = r })
+  pub judged-single : (k ≡ 1 → ⊥) → (k ≡ 2 → ⊥) → (r : Option ℕ) → r ≡ room_after m room → Answers (Some (record { next = start + len; room = r }))
   judged-single h₁ h₂ r er =
       rw (by-kind, er)
       (single-met (length s) (target way) room (parse_by (source way) (d - 1)) k m (start + len) bytes (drop (start + len) s) h.lawful h₁ h₂ size (omega (arith, length-drop (start + len) s, h.within)))

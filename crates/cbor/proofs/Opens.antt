@@ -9,12 +9,13 @@ use lib.ListN.{length, take, drop, length-append, take-append-drop}
 use lib.Seq.{length-take-le, take_at, drop_at}
 use lib.Dec.{ltb, leb, eqb}
 use borrow.Author.Tests.{leb-true, ltb-true, ltb-false, eqb-true, le-leb, lt-ltb, le-ltb, eq-eqb}
+use Rattle.std.specs.Prelude.{cond}
 use Rattle.hash_tree.specs.Record.{least, most}
 use Rattle.hash_tree.specs.Form.{Front, Taken, Shut, Fits}
 use Rattle.hash_tree.proofs.Forms.{Seen, Opening}
-use Rattle.cbor.specs.Cbor.{array_of, pick_bytes, string_head, own, put_cbor, pick_front, sized, long, string, own_front, cbor_front, cbor_form}
+use Rattle.cbor.specs.Cbor.{array_of, string_head, own, put_cbor, sized, long, string, own_front, cbor_front, cbor_form}
 
-pub picked : (v : Bool) (x : Front) → v ≡ true → pick_front v x Shut ≡ x
+pub picked : (v : Bool) (x : Front) → v ≡ true → cond v x Shut ≡ x
 picked v x e = rw e
 
 -- ---- put, and taken off
@@ -28,11 +29,11 @@ sized-back k b rest n h e =
     ∙ ap₂ (Taken k) (take_at b rest n (sym e)) (drop_at b rest n (sym e))
 
 string-by : (k : ℕ) (b rest : List ℕ) → Fits k b → (v : Bool) → ltb (length b) 24 ≡ v
-    → string k (pick_bytes v ((0x40 + length b) ∷ []) (0x58 ∷ length b ∷ []) ++ (b ++ rest)) ≡ Taken k b rest
+    → string k (cond v ((0x40 + length b) ∷ []) (0x58 ∷ length b ∷ []) ++ (b ++ rest)) ≡ Taken k b rest
 string-by k b rest h true e =
     let l : length b < 24 = ltb-true (length b) 24 e in
     picked (ltb k 5) _ (lt-ltb k 5 h.kind) ∙ picked (leb 0x40 (0x40 + length b)) _ (le-leb 0x40 (0x40 + length b) (omega arith))
-    ∙ ap (λ (v : Bool). pick_front v (sized k (0x40 + length b - 0x40) (b ++ rest)) (long k (0x40 + length b) (b ++ rest))) (lt-ltb (0x40 + length b) 0x58 (omega arith))
+    ∙ ap (λ (v : Bool). cond v (sized k (0x40 + length b - 0x40) (b ++ rest)) (long k (0x40 + length b) (b ++ rest))) (lt-ltb (0x40 + length b) 0x58 (omega arith))
     ∙ sized-back k b rest (0x40 + length b - 0x40) h (omega arith)
 string-by k b rest h false e =
     let l : 24 ≤ length b = ltb-false (length b) 24 e in
@@ -58,7 +59,7 @@ back k b rest h = picked (eqb (array_of k) (array_of k)) _ (eq-eqb (array_of k) 
 -- ---- taken off, and put
 
 module _ (xs : List ℕ) where
-  test : (v : Bool) (x : Front) → (v ≡ true → Seen cbor_form xs x) → Seen cbor_form xs (pick_front v x Shut)
+  test : (v : Bool) (x : Front) → (v ≡ true → Seen cbor_form xs x) → Seen cbor_form xs (cond v x Shut)
   test true x h = h refl
   test false x h = tt
 
@@ -81,14 +82,14 @@ module _ (xs : List ℕ) where
   long-seen k h (n ∷ r) two kind e =
       test (eqb h 0x58) _ λ a. test (leb 24 n) _ λ b.
       (let f : ltb n 24 ≡ false = le-ltb n 24 (leb-true 24 n b) in
-      sized-seen k n r two kind (e ∙ ap (λ (x : ℕ). array_of k ∷ k ∷ x ∷ n ∷ r) (eqb-true h 0x58 a) ∙ ap (λ (v : Bool). array_of k ∷ k ∷ (pick_bytes v ((0x40 + n) ∷ []) (0x58 ∷ n ∷ []) ++ r)) (sym f)))
+      sized-seen k n r two kind (e ∙ ap (λ (x : ℕ). array_of k ∷ k ∷ x ∷ n ∷ r) (eqb-true h 0x58 a) ∙ ap (λ (v : Bool). array_of k ∷ k ∷ (cond v ((0x40 + n) ∷ []) (0x58 ∷ n ∷ []) ++ r)) (sym f)))
 
   short-seen : (k h : ℕ) (r : List ℕ) → 2 ≤ k → k < 5 → 0x40 ≤ h → xs ≡ array_of k ∷ k ∷ h ∷ r → (v : Bool) → ltb h 0x58 ≡ v
-      → Seen cbor_form xs (pick_front v (sized k (h - 0x40) r) (long k h r))
+      → Seen cbor_form xs (cond v (sized k (h - 0x40) r) (long k h r))
   short-seen k h r two kind a e true f =
       let g : ltb (h - 0x40) 24 ≡ true = lt-ltb (h - 0x40) 24 (omega (arith, ltb-true h 0x58 f)) in
       let i : h ≡ 0x40 + (h - 0x40) = omega arith in
-      sized-seen k (h - 0x40) r two kind (e ∙ ap (λ (x : ℕ). array_of k ∷ k ∷ x ∷ r) i ∙ ap (λ (v : Bool). array_of k ∷ k ∷ (pick_bytes v ((0x40 + (h - 0x40)) ∷ []) (0x58 ∷ (h - 0x40) ∷ []) ++ r)) (sym g))
+      sized-seen k (h - 0x40) r two kind (e ∙ ap (λ (x : ℕ). array_of k ∷ k ∷ x ∷ r) i ∙ ap (λ (v : Bool). array_of k ∷ k ∷ (cond v ((0x40 + (h - 0x40)) ∷ []) (0x58 ∷ (h - 0x40) ∷ []) ++ r)) (sym g))
   short-seen k h r two kind a e false f = long-seen k h r two kind e
 
   string-seen : (k : ℕ) (r : List ℕ) → 2 ≤ k → xs ≡ array_of k ∷ k ∷ r → Seen cbor_form xs (string k r)

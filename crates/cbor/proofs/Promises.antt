@@ -6,7 +6,8 @@ use mathlib.Core.List.{List, [], ◌∷◌, append-nil}
 use native.Mathlib.Omega.{arith}
 use lib.ListN.{length}
 use lib.Dec.{ltb}
-use Rattle.answers.specs.Numbers.{NoRoom, NotCbor, refused, done}
+use Rattle.answers.specs.Numbers.{refused, done}
+use Rattle.answers.specs.declared.Refusal.TheVariants.{NoRoom, NotCbor}
 use Rattle.answers.specs.Answers.{written}
 use Rattle.hash_tree.specs.HashTree.{HashTree, digest}
 use Rattle.hash_tree.specs.Written.{write, Lawful, max_depth}

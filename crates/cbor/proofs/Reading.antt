@@ -1,6 +1,6 @@
 -- The record that the code reads at a place is the one of the form, over plain lists.
 use Prim.Native.Nat.{ℕ, zero, suc, ◌+◌, ◌-◌, ◌<◌, ◌≤◌}
-use mathlib.Core.Path.{◌≡◌, refl, ap, ◌∙◌}
+use mathlib.Core.Path.{◌≡◌, refl, sym, ap, ◌∙◌}
 use mathlib.Core.Bool.{Bool, true, false}
 use mathlib.Core.List.{List, [], ◌∷◌}
 use native.Mathlib.Omega.{arith}
@@ -8,20 +8,23 @@ use lib.ListN.{length, take, drop, get_or, length-drop, drop_of_length-le}
 use lib.Seq.{length-take-le, drop-drop, drop-cons}
 use lib.Dec.{ltb, leb, eqb}
 use borrow.Author.Tests.{leb-true, le-leb, lt-leb, lt-ltb, le-ltb, eq-eqb, ne_eqb}
-use Rattle.hash_tree.specs.declared.Record.TheVariants.{Whole, Malformed}
-use Rattle.hash_tree.specs.Record.{record_of, least, most}
+use Rattle.std.specs.Prelude.{cond}
+use Rattle.std.specs.Prelude.{Some, None}
+use Rattle.hash_tree.specs.declared.Kind.{Kind}
+use Rattle.hash_tree.specs.Record.{kind_number, kind_of_number, a_record, record_of, least, most}
 use Rattle.hash_tree.specs.Form.{Front, Taken, Shut, Fits, written}
+use Rattle.hash_tree.proofs.RecordLaws.{numbered, with_kind, no_kind}
 use Rattle.hash_tree.proofs.Rebuilding.{seen}
 use Rattle.hash_tree.proofs.Standing.{body}
-use Rattle.cbor.specs.Cbor.{array_of, pick_front, sized, long, string, own_front, cbor_front}
+use Rattle.cbor.specs.Cbor.{array_of, sized, long, string, own_front, cbor_front}
 use Rattle.cbor.specs.Walks.{Lies}
 use Rattle.cbor.proofs.Opens.{picked}
 
-shut : (v : Bool) (x : Front) → (v ≡ true → x ≡ Shut) → pick_front v x Shut ≡ Shut
+shut : (v : Bool) (x : Front) → (v ≡ true → x ≡ Shut) → cond v x Shut ≡ Shut
 shut true x h = h refl
 shut false x h = refl
 
-not-picked : (v : Bool) (x y : Front) → v ≡ false → pick_front v x y ≡ y
+not-picked : (v : Bool) (x y : Front) → v ≡ false → cond v x y ≡ y
 not-picked v x y e = rw e
 
 -- a string of some length
@@ -63,6 +66,13 @@ long-other : (k h : ℕ) (r : List ℕ) → (h ≡ 0x58 → ⊥) → long k h r 
 long-other k h [] f = refl
 long-other k h (n ∷ r) f = not-picked _ _ _ (ne_eqb h 0x58 f)
 
+-- the kind that a number stands for
+pub number-is : (n m : ℕ) (kind : Kind) → n ≡ m → kind_of_number n ≡ Some kind → kind_number kind ≡ m
+number-is n m kind f e = let w = with_kind n kind e in ap kind_number (sym w.1) ∙ numbered n w.0 ∙ f
+
+pub number_none : (n : ℕ) → kind_of_number n ≡ None → 4 < n
+number_none n e = let f = no_kind n e in omega arith
+
 module _ (s : List ℕ) where
   at_one : (at : ℕ) → at < length s → drop at s ≡ get_or s at 0 ∷ drop (at + 1) s
   at_one at h = let e : suc at ≡ at + 1 = omega arith in drop-cons s at 0 h ∙ rw e
@@ -81,7 +91,7 @@ module _ (s : List ℕ) where
 
   -- the byte that opens an array, and the kind
   module _ (at a k : ℕ) (two : 2 ≤ length s - at) (ea : a ≡ get_or s at 0) (ek : k ≡ get_or s (at + 1) 0) where
-    opened : cbor_front (drop at s) ≡ pick_front (eqb a (array_of k)) (own_front k (drop (at + 2) s)) Shut
+    opened : cbor_front (drop at s) ≡ cond (eqb a (array_of k)) (own_front k (drop (at + 2) s)) Shut
     unfolding cbor_front
     opened = rw (at-two at (omega arith), ← ea, ← ek)
 
@@ -109,7 +119,7 @@ module _ (s : List ℕ) where
       no-head h = its-string ∙ rw (drop_of_length-le s {i = at + 2} (omega arith))
 
       module _ (h : ℕ) (three : 3 ≤ length s - at) (eh : h ≡ get_or s (at + 2) 0) (kind : k < 5) where
-        headed : cbor_front (drop at s) ≡ pick_front (leb 0x40 h) (pick_front (ltb h 0x58) (sized k (h - 0x40) (drop (at + 2 + 1) s)) (long k h (drop (at + 2 + 1) s))) Shut
+        headed : cbor_front (drop at s) ≡ cond (leb 0x40 h) (cond (ltb h 0x58) (sized k (h - 0x40) (drop (at + 2 + 1) s)) (long k h (drop (at + 2 + 1) s))) Shut
         headed = its-string ∙ rw (at_one (at + 2) (omega arith), ← eh) (picked _ _ (lt-ltb k 5 kind))
 
         pub low-head : h < 0x40 → cbor_front (drop at s) ≡ Shut
@@ -129,7 +139,7 @@ module _ (s : List ℕ) where
           no_length f = longer (omega arith) ∙ rw (drop_of_length-le s {i = at + 2 + 1} (omega arith))
 
           module _ (n : ℕ) (four : 4 ≤ length s - at) (en : n ≡ get_or s (at + 2 + 1) 0) where
-            measured : cbor_front (drop at s) ≡ pick_front (leb 24 n) (sized k n (drop (at + 2 + 2) s)) Shut
+            measured : cbor_front (drop at s) ≡ cond (leb 24 n) (sized k n (drop (at + 2 + 2) s)) Shut
             measured =
                 let z : at + 2 + 1 + 1 ≡ at + 2 + 2 = omega arith in
                 longer (omega arith) ∙ rw (at_one (at + 2 + 1) (omega arith), ← en, z) (picked _ _ (eq-eqb h 0x58 is))
@@ -141,15 +151,15 @@ module _ (s : List ℕ) where
             long-head f = measured ∙ picked _ _ (le-leb 24 n f)
 
   -- document 01's form
-  pub no_record : (at : ℕ) → record_of (drop at s) ≡ Malformed → written.front (drop at s) ≡ Shut
+  pub no_record : (at : ℕ) → record_of (drop at s) ≡ None → written.front (drop at s) ≡ Shut
   no_record at e = rw e
 
-  pub record-within : (at k n : ℕ) → record_of (drop at s) ≡ Whole k n → at + 2 + n ≤ length s
-  record-within at k n e = (seen s at k n e).fits
+  pub record-within : (at : ℕ) (kind : Kind) (n : ℕ) → record_of (drop at s) ≡ a_record kind n → at + 2 + n ≤ length s
+  record-within at kind n e = (seen s at kind n e).fits
 
-  pub record-lies : (at k n : ℕ) → record_of (drop at s) ≡ Whole k n → Lies s k (at + 2) n (written.front (drop at s))
-  record-lies at k n e =
-      let h = seen s at k n e in
+  pub record-lies : (at : ℕ) (kind : Kind) (n : ℕ) → record_of (drop at s) ≡ a_record kind n → Lies s (kind_number kind) (at + 2) n (written.front (drop at s))
+  record-lies at kind n e =
+      let h = seen s at kind n e in
       let l = body s at n h.fits in
       record {
         is = rw (e, drop-drop 2 at s, drop-drop n (at + 2) s);

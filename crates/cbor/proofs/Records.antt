@@ -12,8 +12,11 @@ use Rattle.hash_tree.specs.Form.{Taken, Shut, Form, Fits, write_by}
 use Rattle.hash_tree.proofs.Forms.{Opening, ReadBy, parsed-written, empty-fits, fork-fits, label-fits, leaf-fits, pruned-fits}
 use Rattle.output.specs.Putting.{Puts}
 use Rattle.output.proofs.Putting.{puts_none, puts_then, puts-length}
+use Rattle.std.specs.Prelude.{Option, Some, None}
+use Rattle.std.specs.Option.{IsSome}
+use Rattle.cbor.specs.declared.Item.{Item}
 use Rattle.cbor.specs.declared.Way.{Way}
-use Rattle.cbor.specs.Walks.{source, target, source_of, Lies, CanPut, Wrote}
+use Rattle.cbor.specs.Walks.{source, target, source_of, Lies, Reads, CanPut, Wrote}
 use Rattle.cbor.proofs.Sizes.{some_bytes}
 use Rattle.cbor.proofs.Judging.{opens}
 
@@ -126,11 +129,11 @@ module _ (way : Way) (s o : List ℕ) where
     shut_by (p ∷ ps) h e f l =
         let i = next-piece (source way) p ps (opens way) h.0 e in
         let j : Taken p.kind p.own (joined (source way) ps) ≡ Shut = sym i ∙ f in
-        let y : ◌≡◌ {A = ℕ} 0 1 = cc in
-        omega arith
+        cc
 
-    pub going-shut : Going way s o o' at to z → (source way).front (drop at s) ≡ Shut → at < length s → ⊥
-    going-shut g = shut_by g.left g.fit g.stands
+    pub going-some : Going way s o o' at to z → (r : Option Item) → Reads s ((source way).front (drop at s)) r → at < length s → IsSome r
+    going-some g (Some i) h l = refl
+    going-some g None h l = absurd (shut_by g.left g.fit g.stands h l)
 
     module _ (k start len : ℕ) (h : Lies s k start len ((source way).front (drop at s))) where
       abbrev own : List ℕ

@@ -2,7 +2,9 @@
 -- not the CBOR of exactly one; then 6 where there is no room; else 0, the length, and the other form at the front of the output.
 -- A refusal has the length 0 and changes no byte.
 use Rattle.std.specs.Prelude.{ℕ, List, [], ◌∷◌}
-use Rattle.answers.specs.Numbers.{Refusal, Malformed, NotCbor, refused}
+use Rattle.answers.specs.Numbers.{refused}
+use Rattle.answers.specs.declared.Refusal.{Refusal}
+use Rattle.answers.specs.declared.Refusal.TheVariants.{Malformed, NotCbor}
 use Rattle.answers.specs.Answers.{written}
 use Rattle.hash_tree.specs.HashTree.{HashTree}
 use Rattle.hash_tree.specs.Written.{write, max_depth}

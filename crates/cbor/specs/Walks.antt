@@ -1,16 +1,15 @@
 -- The answers of the functions below `write_cbor` and `read_cbor`, as values and relations. Definitions only.
-use Rattle.std.specs.Prelude.{◌≡◌, true, false, List, [], ◌∷◌, ℕ, zero, suc, ◌+◌, ◌-◌, ◌≤◌, length, take, drop}
-use Rattle.answers.specs.Numbers.{Refusal, Malformed, NotCbor}
+use Rattle.std.specs.Prelude.{◌≡◌, List, [], ◌∷◌, ℕ, ◌+◌, ◌-◌, ◌≤◌, length, take, drop, Option, Some, None}
+use Rattle.answers.specs.declared.Refusal.{Refusal}
+use Rattle.answers.specs.declared.Refusal.TheVariants.{Malformed, NotCbor}
+use Rattle.hash_tree.specs.Record.{kind_number}
 use Rattle.hash_tree.specs.Written.{max_depth}
 use Rattle.hash_tree.specs.Parse.{Parsed, Got, Bad}
 use Rattle.hash_tree.specs.Form.{Front, Taken, Shut, Form, Fits, write_by, parse_by, written}
-use Rattle.output.specs.declared.Room.{Room}
-use Rattle.output.specs.declared.Room.TheVariants.{Left, Short}
 use Rattle.output.specs.Putting.{Puts, room_after}
 use Rattle.cbor.specs.declared.Way.{Way}
 use Rattle.cbor.specs.declared.Way.TheVariants.{Writing, Reading}
 use Rattle.cbor.specs.declared.Item.{Item}
-use Rattle.cbor.specs.declared.Item.TheVariants.{Whole, Nothing}
 use Rattle.cbor.specs.declared.Met.{Met}
 use Rattle.cbor.specs.Cbor.{cbor_form}
 use Rattle.cbor.specs.Answer.{Written, anew}
@@ -43,9 +42,9 @@ pub record Lies (s : List ℕ) (k start len : ℕ) (f : Front) : Type 0 where
   pub within : start + len ≤ length s
   pub lawful : Fits k (take len (drop start s))
 
-abbrev pub Reads : (s : List ℕ) → Front → Item → Type 0
-Reads s f (Whole k start len) = Lies s k start len f
-Reads s f Nothing = f ≡ Shut
+abbrev pub Reads : (s : List ℕ) → Front → Option Item → Type 0
+Reads s f (Some i) = Lies s (kind_number i.kind) i.start i.len f
+Reads s f None = f ≡ Shut
 
 -- a record of the kind k with n bytes of its own takes m bytes
 abbrev pub Takes : Way → (k n m : ℕ) → Type 0
@@ -53,22 +52,10 @@ Takes way k n m = (b : List ℕ) → length b ≡ n → m ≡ length ((target wa
 
 -- ---- a tree, judged
 
--- a room as one number: one more than what is left, 0 if it is short
-abbrev pub code_of : Room → ℕ
-code_of Short = 0
-code_of (Left m) = suc m
-
-abbrev pub room_of : ℕ → Room
-room_of zero = Short
-room_of (suc m) = Left m
-
-abbrev pub stopped : Met
-stopped = record { ok = false; next = 0; room = 0 }
-
 -- the place after a tree that was read in a list of n, and what its other form leaves of the room
-abbrev pub met_of : (n : ℕ) → Form → Room → Parsed → Met
-met_of n g room (Got t rest) = record { ok = true; next = n - length rest; room = code_of (room_after (length (write_by g t)) room) }
-met_of n g room Bad = stopped
+abbrev pub met_of : (n : ℕ) → Form → Option ℕ → Parsed → Option Met
+met_of n g room (Got t rest) = Some (record { next = n - length rest; room = room_after (length (write_by g t)) room })
+met_of n g room Bad = None
 
 -- ---- records put one after the other
 

@@ -1,27 +1,27 @@
 -- The lines measured and written one after the other, and what the call answers of them.
-use Prim.Native.Nat.{ℕ, ◌+◌, ◌*◌, ◌-◌, ◌≤◌}
+use Prim.Native.Nat.{ℕ, ◌+◌, ◌*◌, ◌≤◌}
 use mathlib.Core.Path.{◌≡◌, sym, ap, ap₂, subst, ◌∙◌}
 use mathlib.Core.List.{List, [], ◌∷◌, ◌++◌, append_assoc, append-nil}
 use native.Mathlib.Omega.{arith}
 use native.Mathlib.Numerals.{add-one}
 use lib.ListN.{length, set, length-append, length-take}
-use borrow.Author.Tests.{le-ltb, lt-ltb, le-leb}
+use borrow.Author.Tests.{le-ltb, lt-ltb}
+use Rattle.key_order.specs.Order.{Key}
 use Rattle.slots.specs.declared.Header.{Header}
 use Rattle.slots.specs.Layout.{header, slot, key_of}
 use Rattle.llrb.specs.Tree.{Entry, size}
 use Rattle.llrb.specs.Map.{pairs}
 use Rattle.llrb.specs.Difference.{Line, difference}
 use Rattle.answers.specs.Answers.{answered, put_front}
-use Rattle.output.specs.declared.Room.{Room}
-use Rattle.output.specs.declared.Room.TheVariants.{Left, Short}
-use Rattle.output.specs.Putting.{Puts, room_after}
-use Rattle.output.proofs.Putting.{puts_none, puts_then, puts-length, puts-front, room-then, room-zero, room-left, room-short}
+use Rattle.answers.specs.declared.Refusal.TheVariants.{NoRoom}
+use Rattle.output.specs.Putting.{Puts}
+use Rattle.output.proofs.Putting.{puts_none, puts_then, puts-length, puts-front}
 use Rattle.store.specs.Sound.{Sound}
 use Rattle.store.specs.Difference.{line_bytes, lines_bytes, difference_answer}
 use Rattle.store.specs.Decode.{decode}
 use Rattle.store.proofs.Decoding.{sound-decodes, live-and-free}
 use Rattle.store.proofs.Difference.{difference-of, difference-most}
-use Rattle.search.specs.declared.Found.{Found}
+use Rattle.std.specs.Prelude.{Option, Ok, Err}
 use Rattle.search.specs.Search.{EntryAt}
 use Rattle.difference.specs.declared.Change.{Change}
 use Rattle.difference.specs.Walking.{First, Ready, lines_of, all_lines, line_in, Says}
@@ -43,7 +43,7 @@ lines_end : {L : List Line} → L ≡ [] → lines_bytes L ≡ []
 unfolding lines_bytes
 lines_end e = ap lines_bytes e
 
-module _ {old new : List ℕ} (p : Sound old) (q : Sound new) {a b : Found} (f : First old a) (g : First new b) where
+module _ {old new : List ℕ} (p : Sound old) (q : Sound new) {a b : Option ℕ} (f : First old a) (g : First new b) where
   ready : Ready old new a b
   ready = record { old_sound = p; new_sound = q; old_at = f.cursor; new_at = g.cursor }
 
@@ -52,49 +52,42 @@ module _ {old new : List ℕ} (p : Sound old) (q : Sound new) {a b : Found} (f :
 
 -- ---- measured: `left` is what the lines so far leave of the room
 
-pub record Measured (old new : List ℕ) (room : Room) (a b : Found) (left : Room) : Type 0 where
+pub record Measured (old new : List ℕ) (room : ℕ) (a b : Option ℕ) (left : ℕ) : Type 0 where
   pub ready : Ready old new a b
-  pub same : room_after (length (lines_bytes (lines_of old new a b))) left ≡ room_after (length (lines_bytes (all_lines old new))) room
+  pub same : left + length (lines_bytes (all_lines old new)) ≡ room + length (lines_bytes (lines_of old new a b))
 
-pub measure-start : {old new : List ℕ} → Sound old → Sound new → {a b : Found} → First old a → First new b → (room : Room) → Measured old new room a b room
-measure-start p q f g room = record { ready = ready p q f g; same = ap (λ (L : List Line). room_after (length (lines_bytes L)) room) (whole p q f g) }
+pub measure-start : {old new : List ℕ} → Sound old → Sound new → {a b : Option ℕ} → First old a → First new b → (room : ℕ) → Measured old new room a b room
+measure-start p q f g room = record { ready = ready p q f g; same = ap (λ (L : List Line). room + length (lines_bytes L)) (sym (whole p q f g)) }
 
-module _ {old new : List ℕ} {room : Room} {a b : Found} {left : Room} (m : Measured old new room a b left) where
-  pub measure-line : {c : Change} {i : ℕ} {x y : Found} → Says old new a b c i x y → {n : ℕ} → n ≡ length (line_in old new c i).key → {r : Room} → r ≡ room_after (1 + n) left
-      → Measured old new room x y r
-  measure-line {c} {i} {x} {y} s {n} en {r} er =
-      let l = line_in old new c i in
-      let e : length (lines_bytes (lines_of old new a b)) ≡ 1 + n + length (lines_bytes (lines_of old new x y)) =
-      omega (arith, ap length (lines-first l s.lines), length-append (line_bytes l) (lines_bytes (lines_of old new x y)), en) in
-      record {
-        ready = s.further.ready;
-        same =
-            ap (room_after (length (lines_bytes (lines_of old new x y)))) er
-            ∙ (room-then (1 + n) (length (lines_bytes (lines_of old new x y))) left ∙ (ap (λ (z : ℕ). room_after z left) (sym e) ∙ m.same));
-      }
+-- a line takes a byte and its key of the room
+pub line-length : {old new : List ℕ} {a b x y : Option ℕ} {c : Change} {i : ℕ} → Says old new a b c i x y → {k : Key} → k ≡ (line_in old new c i).key
+    → length (lines_bytes (lines_of old new a b)) ≡ 1 + length k + length (lines_bytes (lines_of old new x y))
+line-length {old} {new} {a} {b} {x} {y} {c} {i} s {k} e =
+    let l = line_in old new c i in
+    omega (arith, ap length (lines-first l s.lines), length-append (line_bytes l) (lines_bytes (lines_of old new x y)), ap length e)
 
-  pub measure-end : lines_of old new a b ≡ [] → left ≡ room_after (length (lines_bytes (all_lines old new))) room
-  measure-end e = room-zero left ∙ (ap (λ (w : List ℕ). room_after (length w) left) (sym (lines_end e)) ∙ m.same)
+pub no-length : {L : List Line} → L ≡ [] → length (lines_bytes L) ≡ 0
+no-length e = ap length (lines_end e)
 
 -- ---- written: the lines so far stand at the front
 
-pub record Putting (old new out₀ : List ℕ) (a b : Found) (out : List ℕ) (at : ℕ) : Type 0 where
+pub record Putting (old new out₀ : List ℕ) (a b : Option ℕ) (out : List ℕ) (at : ℕ) : Type 0 where
   pub ready : Ready old new a b
   pub before : List ℕ
   pub puts : Puts out₀ out 0 at before
   pub rest : lines_bytes (all_lines old new) ≡ before ++ lines_bytes (lines_of old new a b)
 
-pub put-start : {old new : List ℕ} → Sound old → Sound new → {a b : Found} → First old a → First new b → (out : List ℕ) → Putting old new out a b out 0
+pub put-start : {old new : List ℕ} → Sound old → Sound new → {a b : Option ℕ} → First old a → First new b → (out : List ℕ) → Putting old new out a b out 0
 put-start p q f g out = record { ready = ready p q f g; before = []; puts = puts_none out 0; rest = ap lines_bytes (sym (whole p q f g)) }
 
-module _ {old new out₀ : List ℕ} {a b : Found} {out : List ℕ} {at : ℕ} (m : Putting old new out₀ a b out at) where
+module _ {old new out₀ : List ℕ} {a b : Option ℕ} {out : List ℕ} {at : ℕ} (m : Putting old new out₀ a b out at) where
   pub put-length : length out ≡ length out₀
   put-length = puts-length m.before m.puts
 
   pub put-end : lines_of old new a b ≡ [] → Puts out₀ out 0 at (lines_bytes (all_lines old new))
   put-end e = subst (Puts out₀ out 0 at) (sym (m.rest ∙ (ap (λ (w : List ℕ). m.before ++ w) (lines_end e) ∙ append-nil m.before))) m.puts
 
-  module _ {c : Change} {i : ℕ} {x y : Found} (s : Says old new a b c i x y) where
+  module _ {c : Change} {i : ℕ} {x y : Option ℕ} (s : Says old new a b c i x y) where
     pub put-room : length (lines_bytes (all_lines old new)) ≤ length out₀ → at + length (line_bytes (line_in old new c i)) ≤ length out
     put-room h =
         let l = line_in old new c i in
@@ -123,13 +116,6 @@ module _ {old new out₀ : List ℕ} {a b : Found} {out : List ℕ} {at : ℕ} (
 
 -- ---- the answer
 
--- a room that loses nothing
-left_by : (n m : ℕ) → n ≤ m → room_after n (Left m) ≡ Left m → n ≡ 0
-left_by n m l k =
-    let e : Left (m - n) ≡ Left m = rw (le-leb n m l) at k in
-    let d : m - n ≡ m = cc in
-    omega (arith, l, d)
-
 module _ {old new : List ℕ} (p : Sound old) (q : Sound new) (out : List ℕ) where
   abbrev bytes : List ℕ
   bytes = lines_bytes (all_lines old new)
@@ -137,22 +123,18 @@ module _ {old new : List ℕ} (p : Sound old) (q : Sound new) (out : List ℕ) w
   answer : difference_answer old new out ≡ put_front out bytes
   answer = difference-of (sound-decodes p) (sound-decodes q) out
 
-  pub fits : {r : Room} {n : ℕ} → r ≡ room_after (length bytes) (Left (length out)) → r ≡ Left n → length bytes ≤ length out
-  fits {r} {n} e f = room-left (length bytes) (length out) n (sym e ∙ f)
+  pub short-answer : (length bytes ≤ length out → ⊥) → answered (Err NoRoom) out ≡ difference_answer old new out
+  short-answer n = sym (answer ∙ rw (lt-ltb (length out) (length bytes) (omega (arith, n))))
 
-  pub short-answer : {r : Room} → r ≡ room_after (length bytes) (Left (length out)) → r ≡ Short → answered (record { number = 6; size = 0 }) out ≡ difference_answer old new out
-  short-answer e f = sym (answer ∙ rw (lt-ltb (length out) (length bytes) (room-short (length bytes) (length out) (sym e ∙ f))))
-
-  -- all of the room is left: there is no line
-  pub empty-answer : {r : Room} {n : ℕ} → r ≡ room_after (length bytes) (Left (length out)) → r ≡ Left n → n ≡ length out
-      → answered (record { number = 0; size = 0 }) out ≡ difference_answer old new out
-  empty-answer {r} {n} e f h = sym (answer ∙ none bytes (fits e f) (sym e ∙ (f ∙ ap Left h)))
+  -- there is no line
+  pub empty-answer : length bytes ≡ 0 → answered (Ok 0) out ≡ difference_answer old new out
+  empty-answer e = sym (answer ∙ none bytes e)
     where
-      none : (w : List ℕ) → length w ≤ length out → room_after (length w) (Left (length out)) ≡ Left (length out) → put_front out w ≡ record { number = 0; size = 0; output = out }
-      none [] l k = rw (le-ltb (length out) 0 (omega arith))
-      none (x ∷ w) l k = absurd (omega (arith, l, left_by (length (x ∷ w)) (length out) l k))
+      none : (w : List ℕ) → length w ≡ 0 → put_front out w ≡ record { number = 0; size = 0; output = out }
+      none [] e = rw (le-ltb (length out) 0 (omega arith))
+      none (x ∷ w) e = absurd (omega arith)
 
-  pub put-answer : length bytes ≤ length out → {out' : List ℕ} {k : ℕ} → Puts out out' 0 k bytes → answered (record { number = 0; size = k }) out' ≡ difference_answer old new out
+  pub put-answer : length bytes ≤ length out → {out' : List ℕ} {k : ℕ} → Puts out out' 0 k bytes → answered (Ok k) out' ≡ difference_answer old new out
   put-answer h {out'} {k} u =
       let z = puts-front bytes h u in
       sym (answer ∙ rw (le-ltb (length out) (length bytes) h) (sym (λ i. record { number = 0; size = z.0 i; output = z.1 i })))

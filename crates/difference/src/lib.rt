@@ -2,21 +2,21 @@
 // take, then to write them. Values are compared by their bytes; equal digests would prove nothing.
 #![tactic(auto)]
 
-ghost use Rattle.std.specs.Prelude.{◌≡◌, true, ◌∷◌, ◌+◌, ◌*◌, ◌≤◌, ◌<◌, length};
+ghost use Rattle.std.specs.Prelude.{◌≡◌, true, ◌+◌, ◌-◌, ◌≤◌, ◌<◌, length, Some, SomeIff};
 ghost use Rattle.answers.specs.Answers.{answered};
-ghost use Rattle.output.specs.Putting.{Puts, room_after};
-ghost use Rattle.slots.specs.Layout.{slot, key_of};
+ghost use Rattle.output.specs.Putting.{Puts};
+ghost use Rattle.llrb.specs.Difference.{line};
 ghost use Rattle.search.specs.Search.{EntryAt};
-ghost use Rattle.search.specs.declared.Found.TheVariants.{At};
 ghost use Rattle.store.specs.Sound.{Sound};
 ghost use Rattle.store.specs.Difference.{kind_of, line_bytes, lines_bytes, difference_answer};
-ghost use Rattle.difference.specs.Walking.{Cursor, First, After, Ready, Meets, Steps, change_of, side_of, line_in, all_lines};
+ghost use Rattle.difference.specs.Walking.{Cursor, First, After, Ready, Meets, Steps, change_of, side_of, line_in, all_lines, said};
 
-use answers::{NO_ROOM, Saved};
-use key_order::{Ordering, order, same};
-use output::{Room, less, put_bytes};
-use search::{Found, first_entry, next_entry};
+use answers::Refusal;
+use key_order::{order, same};
+use output::put_bytes;
+use search::{first_entry, next_entry};
 use slots::{header_of, key, value};
+use std::cmp::Ordering;
 
 // Only in the old store, only in the new one, or in both with another value.
 #[derive(Clone, Copy)]
@@ -26,25 +26,45 @@ pub enum Change {
     Other,
 }
 
-// What the walk comes to: a line, with the slot that has its key and the cursors after it; one key with one value; or the end.
+impl Change {
+    // The kind of its lines.
+    fn kind(self) -> usize
+        ensures { (result ≡ kind_of (change_of self)) × (result < 4) }
+    {
+        match self {
+            Change::Gone => 1,
+            Change::New => 2,
+            Change::Other => 3,
+        }
+    }
+}
+
+// Where the walk stands in the two stores: at the slot of an entry, or past the last one.
+#[derive(Clone, Copy)]
+pub struct Cursors {
+    pub in_old: Option<usize>,
+    pub in_new: Option<usize>,
+}
+
+// A line, by the slot that has its key, and the cursors after it.
+#[derive(Clone, Copy)]
+pub struct Line {
+    pub change: Change,
+    pub slot: usize,
+    pub rest: Cursors,
+}
+
+// What the walk comes to: a line; one key with one value, and the cursors after it; or the end.
 #[derive(Clone, Copy)]
 pub enum Step {
-    Line {
-        change: Change,
-        slot: usize,
-        old: Found,
-        new: Found,
-    },
-    Same {
-        old: Found,
-        new: Found,
-    },
+    Line(Line),
+    Same(Cursors),
     End,
 }
 
 // ---- one store
 
-fn first(s: &[u8]) -> Found
+fn first(s: &[u8]) -> Option<usize>
     requires { Sound s.now }
     ensures { First s.now result }
 {
@@ -52,202 +72,160 @@ fn first(s: &[u8]) -> Found
 }
 
 // The entry that follows the one in slot `i`.
-fn after(s: &[u8], i: usize) -> Found
-    requires { (Sound s.now) × (Cursor s.now (At i)) }
+fn after(s: &[u8], i: usize) -> Option<usize>
+    requires { (Sound s.now) × (Cursor s.now (Some i)) }
     ensures { After s.now i result }
 {
     next_entry(s, header_of(s).root, key(s, i))
 }
 
+fn line_at(change: Change, slot: usize, in_old: Option<usize>, in_new: Option<usize>) -> Step
+    ensures { result ≡ said change slot in_old in_new }
+{
+    Step::Line(Line {
+        change,
+        slot,
+        rest: Cursors { in_old, in_new },
+    })
+}
+
+// A line's bytes: 2 bits of kind, 6 bits of key length, then the key.
+fn put_line(change: Change, key: &[u8], out: &mut [u8], at: usize) -> usize
+    requires { (length key.now ≤ 48) × (at + length key.now < length out.old) }
+    ensures { Puts out.old out.new at result (line_bytes (line (change_of change) key.now)) }
+{
+    out[at] = (change.kind() * 64 + key.len()) as u8;
+    put_bytes(out, at + 1, key)
+}
+
 // ---- both
 
-// How the two entries at the cursors stand to each other.
-fn meet(old: &[u8], new: &[u8], a: Found, b: Found) -> Step
-    requires { Ready old.now new.now a b }
-    ensures { Meets old.now new.now a b result }
-{
-    let Found::At(i) = a else {
-        let Found::At(j) = b else {
-            return Step::End;
-        };
-        return Step::Line {
-            change: Change::New,
-            slot: j,
-            old: a,
-            new: after(new, j),
-        };
-    };
-    let Found::At(j) = b else {
-        return Step::Line {
-            change: Change::Gone,
-            slot: i,
-            old: after(old, i),
-            new: b,
-        };
-    };
-    match order(key(old, i), key(new, j)) {
-        Ordering::Less => Step::Line {
-            change: Change::Gone,
-            slot: i,
-            old: after(old, i),
-            new: b,
-        },
-        Ordering::Equal => {
-            let x = after(old, i);
-            let y = after(new, j);
-            if same(value(old, i), value(new, j)) {
-                return Step::Same { old: x, new: y };
-            }
-            Step::Line {
-                change: Change::Other,
-                slot: i,
-                old: x,
-                new: y,
+// The two stores. That they are sound is asked by each method that needs it: `Sound` hands a model on, so it is no fact for a ghost field.
+#[derive(Clone, Copy)]
+struct Stores<'a> {
+    older: &'a [u8],
+    newer: &'a [u8],
+}
+
+impl<'a> Stores<'a> {
+    // The key of a line, in the store that has it.
+    fn key(&self, line: Line) -> &'a [u8]
+        requires { EntryAt (side_of line.change self.now.older.now self.now.newer.now) line.slot }
+        ensures is { result.now ≡ (line_in self.now.older.now self.now.newer.now line.change line.slot).key }
+        ensures short { length result.now ≤ 48 }
+    {
+        match line.change {
+            Change::Gone | Change::Other => key(self.older, line.slot),
+            Change::New => key(self.newer, line.slot),
+        }
+    }
+
+    fn start(&self) -> Cursors
+        requires { (Sound self.now.older.now) × (Sound self.now.newer.now) }
+        ensures { (First self.now.older.now result.in_old) × (First self.now.newer.now result.in_new) }
+    {
+        Cursors {
+            in_old: first(self.older),
+            in_new: first(self.newer),
+        }
+    }
+
+    // How the two entries at the cursors stand to each other.
+    fn meet(&self, at: Cursors) -> Step
+        requires { Ready self.now.older.now self.now.newer.now at.in_old at.in_new }
+        ensures { Meets self.now.older.now self.now.newer.now at.in_old at.in_new result }
+    {
+        match (at.in_old, at.in_new) {
+            (None, None) => Step::End,
+            (Some(i), None) => line_at(Change::Gone, i, after(self.older, i), None),
+            (None, Some(j)) => line_at(Change::New, j, None, after(self.newer, j)),
+            (Some(i), Some(j)) => match order(key(self.older, i), key(self.newer, j)) {
+                Ordering::Less => line_at(Change::Gone, i, after(self.older, i), Some(j)),
+                Ordering::Greater => line_at(Change::New, j, Some(i), after(self.newer, j)),
+                Ordering::Equal => {
+                    let in_old = after(self.older, i);
+                    let in_new = after(self.newer, j);
+                    if same(value(self.older, i), value(self.newer, j)) {
+                        Step::Same(Cursors { in_old, in_new })
+                    } else {
+                        line_at(Change::Other, i, in_old, in_new)
+                    }
+                }
+            },
+        }
+    }
+
+    // The next line from the cursors on, if there is one.
+    fn next_line(&self, from: Cursors) -> Option<Line>
+        requires { Ready self.now.older.now self.now.newer.now from.in_old from.in_new }
+        ensures { Steps self.now.older.now self.now.newer.now from.in_old from.in_new result }
+    {
+        let mut at = from;
+        loop {
+            match self.meet(at) {
+                Step::Line(line) => break Some(line),
+                Step::Same(rest) => at = rest,
+                Step::End => break None,
             }
         }
-        Ordering::Greater => Step::Line {
-            change: Change::New,
-            slot: j,
-            old: a,
-            new: after(new, j),
-        },
     }
-}
 
-// The next line from the cursors on, or the end.
-fn next_line(old: &[u8], new: &[u8], a: Found, b: Found) -> Step
-    requires { Ready old.now new.now a b }
-    ensures { Steps old.now new.now a b result }
-{
-    let mut o = a;
-    let mut n = b;
-    loop {
-        let step = meet(old, new, o, n);
-        let Step::Same { old: x, new: y } = step else {
-            break step;
-        };
-        o = x;
-        n = y;
+    // ---- the two walks. What each does with a line is a line of its own: a closure for it would have to be told, at each call, what
+    // the loop's invariant knows of the room.
+
+    // The room that is left after all lines, if they fit.
+    fn fit(&self, room: usize) -> Option<usize>
+        requires { (Sound self.now.older.now) × (Sound self.now.newer.now) }
+        ensures { SomeIff result (length (lines_bytes (all_lines self.now.older.now self.now.newer.now)) ≤ room) (room - length (lines_bytes (all_lines self.now.older.now self.now.newer.now))) }
+    {
+        let mut left = room;
+        let mut at = self.start();
+        while let Some(line) = self.next_line(at) {
+            left = left.checked_sub(1 + self.key(line).len())?;
+            at = line.rest;
+        }
+        Some(left)
     }
-}
 
-// ---- a line's bytes
-
-// How many bytes the key of a line has.
-fn key_length(old: &[u8], new: &[u8], change: Change, slot: usize) -> usize
-    requires { EntryAt (side_of change old.now new.now) slot }
-    ensures { (result ≡ length (line_in old.now new.now change slot).key) × (result ≤ 48) }
-{
-    match change {
-        Change::Gone => key(old, slot).len(),
-        Change::New => key(new, slot).len(),
-        Change::Other => key(old, slot).len(),
+    // Writes all lines; there is room for them.
+    fn put_lines(&self, out: &mut [u8]) -> usize
+        requires sound { (Sound self.now.older.now) × (Sound self.now.newer.now) }
+        requires room { length (lines_bytes (all_lines self.now.older.now self.now.newer.now)) ≤ length out.old }
+        ensures { Puts out.old out.new 0 result (lines_bytes (all_lines self.now.older.now self.now.newer.now)) }
+    {
+        let mut end = 0;
+        let mut at = self.start();
+        while let Some(line) = self.next_line(at) {
+            end = put_line(line.change, self.key(line), out, end);
+            at = line.rest;
+        }
+        end
     }
-}
 
-// 2 bits of kind, 6 bits of key length, then the key.
-fn put_key(s: &[u8], i: usize, kind: usize, out: &mut [u8], at: usize) -> usize
-    requires { (EntryAt s.now i) × (kind < 4) × (at + length (key_of (slot s.now i)) < length out.old) }
-    ensures { Puts out.old out.new at result ((kind * 64 + length (key_of (slot s.now i))) ∷ key_of (slot s.now i)) }
-{
-    let k = key(s, i);
-    out[at] = (kind * 64 + k.len()) as u8;
-    put_bytes(out, at + 1, k)
-}
-
-fn put_line(old: &[u8], new: &[u8], change: Change, slot: usize, out: &mut [u8], at: usize) -> usize
-    requires entry_at { EntryAt (side_of change old.now new.now) slot }
-    requires room { at + length (line_bytes (line_in old.now new.now change slot)) ≤ length out.old }
-    ensures { Puts out.old out.new at result (line_bytes (line_in old.now new.now change slot)) }
-{
-    match change {
-        Change::Gone => put_key(old, slot, 1, out, at),
-        Change::New => put_key(new, slot, 2, out, at),
-        Change::Other => put_key(old, slot, 3, out, at),
+    // Whether there is room for any list of these stores: a line of 49 bytes for each entry.
+    fn is_ample(&self, room: usize) -> bool
+        requires { (Sound self.now.older.now) × (Sound self.now.newer.now) }
+        ensures { result ≡ true → length (lines_bytes (all_lines self.now.older.now self.now.newer.now)) ≤ room }
+    {
+        49 * (header_of(self.older).live + header_of(self.newer).live) <= room
     }
-}
-
-// ---- the two walks
-
-// The room that is left after all lines.
-fn fit(old: &[u8], new: &[u8], room: Room) -> Room
-    requires { (Sound old.now) × (Sound new.now) }
-    ensures { result ≡ room_after (length (lines_bytes (all_lines old.now new.now))) room }
-{
-    let mut left = room;
-    let mut a = first(old);
-    let mut b = first(new);
-    loop {
-        let Step::Line {
-            change,
-            slot,
-            old: x,
-            new: y,
-        } = next_line(old, new, a, b)
-        else {
-            break left;
-        };
-        left = less(left, 1 + key_length(old, new, change, slot));
-        a = x;
-        b = y;
-    }
-}
-
-// Writes all lines; there is room for them.
-fn put_lines(old: &[u8], new: &[u8], out: &mut [u8]) -> usize
-    requires sound { (Sound old.now) × (Sound new.now) }
-    requires room { length (lines_bytes (all_lines old.now new.now)) ≤ length out.old }
-    ensures { Puts out.old out.new 0 result (lines_bytes (all_lines old.now new.now)) }
-{
-    let mut at = 0;
-    let mut a = first(old);
-    let mut b = first(new);
-    loop {
-        let Step::Line {
-            change,
-            slot,
-            old: x,
-            new: y,
-        } = next_line(old, new, a, b)
-        else {
-            break at;
-        };
-        at = put_line(old, new, change, slot, out, at);
-        a = x;
-        b = y;
-    }
-}
-
-// Whether there is room for any list of these stores: a line of 49 bytes for each entry.
-fn is_ample(old: &[u8], new: &[u8], room: usize) -> bool
-    requires { (Sound old.now) × (Sound new.now) }
-    ensures { result ≡ true → length (lines_bytes (all_lines old.now new.now)) ≤ room }
-{
-    if 49 * (header_of(old).live + header_of(new).live) <= room {
-        return true;
-    }
-    false
 }
 
 // The lines at the front of the output, if there is room for them. Where there is room for any list, or there are no lines, nothing is
 // walked twice.
-pub fn difference(old: &[u8], new: &[u8], out: &mut [u8]) -> Saved
+pub fn difference(old: &[u8], new: &[u8], out: &mut [u8]) -> Result<usize, Refusal>
     requires { (Sound old.now) × (Sound new.now) }
     ensures { answered result out.new ≡ difference_answer old.now new.now out.old }
 {
-    if is_ample(old, new, out.len()) {
-        let size = put_lines(old, new, out);
-        return Saved { number: 0, size };
-    }
-    let Room::Left(left) = fit(old, new, Room::Left(out.len())) else {
-        return Saved {
-            number: NO_ROOM,
-            size: 0,
-        };
+    let stores = Stores {
+        older: old,
+        newer: new,
     };
-    if left == out.len() {
-        return Saved { number: 0, size: 0 };
+    if !stores.is_ample(out.len()) {
+        let left = stores.fit(out.len()).ok_or(Refusal::NoRoom)?;
+        if left == out.len() {
+            return Ok(0);
+        }
     }
-    let size = put_lines(old, new, out);
-    Saved { number: 0, size }
+    Ok(stores.put_lines(out))
 }

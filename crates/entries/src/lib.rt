@@ -6,8 +6,12 @@ ghost use Rattle.key_order.specs.Order.{cmp};
 ghost use Rattle.slots.specs.Layout.{HasSlot, slot, key_of};
 ghost use Rattle.entries.specs.Digests.{Link, LinksIn, value_digest, data_digest_in, forked, compute_subtree_hash, count_below, linked_count};
 
+use std::cmp::Ordering;
+
+// A slot goes by its number here too (crate slots says why).
+
 // How `key` stands to the key in slot `i`.
-pub fn compare_key(s: &[u8], i: usize, key: &[u8]) -> key_order::Ordering
+pub fn compare_key(s: &[u8], i: usize, key: &[u8]) -> Ordering
     requires has_slot { HasSlot (length s.now) i }
     requires key_bound { (slot s.now i).key_length ≤ 48 }
     ensures { result ≡ cmp key.now (key_of (slot s.now i)) }

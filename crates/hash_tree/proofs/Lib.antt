@@ -9,5 +9,4 @@ pub mod DigestLaws
 pub mod Pruning
 pub mod Examples
 pub mod Standing
-pub mod Copying
 pub mod Rebuilding

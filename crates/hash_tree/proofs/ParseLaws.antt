@@ -8,13 +8,13 @@ use lib.ListN.{length, length-append}
 use lib.Seq.{take_at, drop_at}
 use lib.Dec.{lit<}
 use Rattle.hash_tree.specs.declared.Record.{Record}
-use Rattle.hash_tree.specs.declared.Record.TheVariants.{Whole, Malformed}
+use Rattle.std.specs.Prelude.{Option, Some, None}
 use Rattle.hash_tree.specs.HashTree.{HashTree, Empty, Fork, Labeled, Leaf, Pruned}
 use Rattle.hash_tree.specs.Written.{write, piece, size, Lengths, Lawful, max_label, max_value, digest_len}
-use Rattle.hash_tree.specs.Record.{record_of, least, most}
+use Rattle.hash_tree.specs.Record.{kind_of, record_of, least, most}
 use Rattle.hash_tree.specs.Parse.{Parsed, Got, Bad, parse, grow, by_kind, labeled, fork, Bytes}
 use Rattle.hash_tree.specs.Form.{Taken, Fits, write_by, grow_by, parse_by, front_of, written}
-use Rattle.hash_tree.proofs.RecordLaws.{View, whole, bad, view, piece-opens, body-length, piece_back}
+use Rattle.hash_tree.proofs.RecordLaws.{View, whole, bad, view, numbered, piece-opens, body-length, piece_back}
 use Rattle.hash_tree.proofs.Forms.{Seen, Opening, ReadBy, written-parsed, parsed-written, prefix-free-by, unique-by}
 pub use Rattle.hash_tree.proofs.Lawfulness.{depth_pos, lawful-left, lawful-right, lawful-fork, lawful-below, lawful-labeled, bytes_rest, bytes_drop}
 
@@ -34,7 +34,7 @@ length-write (Pruned b) = length-piece 4 b
 -- a written record is parsed by its kind
 pub parse-piece : (k : ℕ) (b rest : List ℕ) → k < 5 → least k ≤ length b → length b ≤ most k → (d : ℕ) → parse (suc d) (piece k b ++ rest) ≡ by_kind (parse d) k b rest
 unfolding parse piece
-parse-piece k b rest kind low high d = rw (piece-opens k b rest kind low high, take_at b rest (length b) refl, drop_at b rest (length b) refl)
+parse-piece k b rest kind low high d = rw (piece-opens k b rest kind low high, numbered k kind, take_at b rest (length b) refl, drop_at b rest (length b) refl)
 
 module _ (d : ℕ) where
   pub parse-empty : (rest : List ℕ) → parse (suc d) (piece 0 [] ++ rest) ≡ Got Empty rest
@@ -58,15 +58,15 @@ module _ (d : ℕ) where
   parse-pruned b rest h = parse-piece 4 b rest (lit< tt) (omega arith) (omega arith) d
 
 -- document 01's form is one of the forms of specs/Form
-by-record : (xs : List ℕ) → Bytes xs → (r : Record) → View xs r → Seen written xs (front_of xs r)
+by-record : (xs : List ℕ) → Bytes xs → (r : Option Record) → View xs r → Seen written xs (front_of xs r)
 by-record xs bs r (whole o) =
-    (piece_back xs bs o, record { kind = o.kind; low = rw (body-length xs o) o.low; high = rw (body-length xs o) o.high })
+    rw (numbered (kind_of xs) o.kind) (piece_back xs bs o, record { kind = o.kind; low = rw (body-length xs o) o.low; high = rw (body-length xs o) o.high })
 by-record xs bs r (bad f) = tt
 
 put_front : (k : ℕ) (b rest : List ℕ) → Fits k b → front_of (piece k b ++ rest) (record_of (piece k b ++ rest)) ≡ Taken k b rest
 unfolding piece
 put_front k b rest h =
-    rw (piece-opens k b rest h.kind h.low h.high, take_at b rest (length b) refl, drop_at b rest (length b) refl)
+    rw (piece-opens k b rest h.kind h.low h.high, numbered k h.kind, take_at b rest (length b) refl, drop_at b rest (length b) refl)
 
 pub opening : Opening written
 opening = record { back = put_front; seen = λ xs bs. by-record xs bs (record_of xs) (view xs) }
@@ -79,9 +79,9 @@ write-by (Labeled b t) = rw (write-by t)
 write-by (Leaf b) = refl
 write-by (Pruned b) = refl
 
-grow-by : (p : List ℕ → Parsed) (xs : List ℕ) (r : Record) → grow_by p (front_of xs r) ≡ grow p xs r
-grow-by p xs (Whole k n) = refl
-grow-by p xs Malformed = refl
+grow-by : (p : List ℕ → Parsed) (xs : List ℕ) (r : Option Record) → grow_by p (front_of xs r) ≡ grow p xs r
+grow-by p xs (Some r) = refl
+grow-by p xs None = refl
 
 pub parse-by : (d : ℕ) (xs : List ℕ) → parse_by written d xs ≡ parse d xs
 unfolding parse parse_by

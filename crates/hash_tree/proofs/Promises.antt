@@ -5,7 +5,7 @@ use mathlib.Core.Logic.{◌⊎◌, inl, inr}
 use mathlib.Core.List.{List, [], ◌∷◌, ◌++◌, append-nil}
 use native.Mathlib.Omega.{arith}
 use lib.ListN.{length}
-use Rattle.hash_tree.specs.declared.Rebuilt.{Rebuilt}
+use Rattle.answers.specs.Answers.{Digested}
 use Rattle.hash_tree.specs.HashTree.{HashTree, digest}
 use Rattle.hash_tree.specs.Written.{write, piece, Lengths, Lawful, max_depth, max_label}
 use Rattle.hash_tree.specs.Parse.{Parsed, Got, Bad, parse, Bytes}
@@ -29,7 +29,7 @@ unfolding rebuilt
 sound s bs e = found s (parse max_depth s) (read max_depth s bs) e
 
 -- the tree is the only one
-pub only : (bytes : List ℕ) (r : Rebuilt) (a : Accepted bytes r) (t : HashTree) → Lengths t → bytes ≡ write t → t ≡ a.tree
+pub only : (bytes : List ℕ) (r : Digested) (a : Accepted bytes r) (t : HashTree) → Lengths t → bytes ≡ write t → t ≡ a.tree
 only bytes r a t h e = unique t a.tree h a.lawful.0 (cc (e, a.written))
 
 -- the answer is one of two
@@ -51,7 +51,7 @@ nine bytes h =
   where
     refused-by : ((rebuilt bytes).number ≡ 0) ⊎ (rebuilt bytes ≡ refused) → ((t : HashTree) → Lawful max_depth t → bytes ≡ write t → ⊥) → (rebuilt bytes).number ≡ 9
     refused-by (inl e) f = let a = sound bytes h e in absurd (f a.tree a.lawful a.written)
-    refused-by (inr e) f = ap (λ (r : Rebuilt). r.number) e
+    refused-by (inr e) f = ap (λ (r : Digested). r.number) e
 
 -- a Fork or a Labeled as the last record that the depth allows is refused, whatever follows
 pub fork-too-deep : (n : ℕ) → suc n ≡ max_depth → (xs rest : List ℕ) → Reaches n xs (piece 1 [] ++ rest) → rebuilt xs ≡ refused

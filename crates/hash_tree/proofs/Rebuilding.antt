@@ -8,20 +8,18 @@ use native.Mathlib.Numerals.{sub-one}
 use native.Mathlib.Nat.{le_refl}
 use lib.ListN.{length, take, drop, length-drop, drop_of_length-le}
 use lib.Seq.{drop-drop}
-use lib.Dec.{T, leb}
+use lib.Dec.{leb}
 use borrow.Author.Tests.{leb-true, leb-false}
 use Rattle.hash_tree.specs.declared.Record.{Record}
-use Rattle.hash_tree.specs.declared.Record.TheVariants.{Whole, Malformed}
+use Rattle.std.specs.Prelude.{Option, Some, None}
 use Rattle.hash_tree.specs.declared.Step.{Step}
-use Rattle.hash_tree.specs.HashTree.{HashTree, digest}
-use Rattle.hash_tree.specs.Record.{record_of, Opens, kind_of, len_of, least, most}
+use Rattle.hash_tree.specs.HashTree.{HashTree, digest, fork_hash, labeled_hash}
+use Rattle.hash_tree.specs.declared.Kind.{Kind}
+use Rattle.hash_tree.specs.Record.{kind_number, kind_at, a_record, whole_record, record_of, Opens, kind_of, len_of, least, most}
 use Rattle.hash_tree.specs.Parse.{Parsed, Got, Bad, parse, grow, by_kind, labeled, forked, fork}
-use Rattle.hash_tree.specs.Steps.{bad_step, step_of, join_fork, join_labeled, single_step}
-use Rattle.hash_tree.proofs.RecordLaws.{View, whole, bad, view}
+use Rattle.hash_tree.specs.Steps.{step_of, single_digest}
+use Rattle.hash_tree.proofs.RecordLaws.{View, whole, bad, view, numbered, kind-back}
 use Rattle.hash_tree.specs.Whole.{alone, accepted, refused}
-
-no_true : true ≡ false → ⊥
-no_true e = subst T e tt
 
 -- what is known of a whole record at a place
 pub record Seen (s : List ℕ) (at k n : ℕ) : Type 0 where
@@ -30,13 +28,21 @@ pub record Seen (s : List ℕ) (at k n : ℕ) : Type 0 where
   pub low : least k ≤ n
   pub high : n ≤ most k
 
-opened : (xs : List ℕ) (k n : ℕ) (r : Record) → View xs r → r ≡ Whole k n → Opens xs × (kind_of xs ≡ k) × (len_of xs ≡ n)
-opened xs k n r (whole o) e = (o, cc, cc)
-opened xs k n r (bad f) e = let z : ◌≡◌ {A = ℕ} 0 1 = cc in absurd (omega arith)
+abbrev kind_in : Option Record → ℕ
+kind_in (Some r) = kind_number r.kind
+kind_in None = 0
 
-pub seen : (s : List ℕ) (at k n : ℕ) → record_of (drop at s) ≡ Whole k n → Seen s at k n
-seen s at k n e =
-    let w = opened (drop at s) k n (record_of (drop at s)) (view (drop at s)) e in
+abbrev len_in : Option Record → ℕ
+len_in (Some r) = r.len
+len_in None = 0
+
+opened : (xs : List ℕ) (kind : Kind) (n : ℕ) (r : Option Record) → View xs r → r ≡ a_record kind n → Opens xs × (kind_of xs ≡ kind_number kind) × (len_of xs ≡ n)
+opened xs kind n r (whole o) e = (o, sym (numbered (kind_of xs) o.kind) ∙ ap kind_in e, ap len_in e)
+opened xs kind n r (bad f) e = let z : ◌≡◌ {A = ℕ} 0 1 = cc in absurd (omega arith)
+
+pub seen : (s : List ℕ) (at : ℕ) (kind : Kind) (n : ℕ) → record_of (drop at s) ≡ a_record kind n → Seen s at (kind_number kind) n
+seen s at kind n e =
+    let w = opened (drop at s) kind n (record_of (drop at s)) (view (drop at s)) e in
     let l = length-drop at s in
     record { fits = omega arith; kind = rw w.1 at w.0.kind; low = rw (w.1, w.2) at w.0.low; high = rw (w.1, w.2) at w.0.high }
 
@@ -52,16 +58,33 @@ pub parse-none : (d : ℕ) (xs : List ℕ) → d ≡ 0 → parse d xs ≡ Bad
 unfolding parse
 parse-none d xs e = rw e
 
-pub parse-bad : (d : ℕ) (xs : List ℕ) → record_of xs ≡ Malformed → parse d xs ≡ Bad
+pub parse-bad : (d : ℕ) (xs : List ℕ) → record_of xs ≡ None → parse d xs ≡ Bad
 unfolding parse
 parse-bad zero xs e = refl
 parse-bad (suc d) xs e = rw e
 
-parse-at : (s : List ℕ) (at d k n : ℕ) → (d ≡ 0 → ⊥) → record_of (drop at s) ≡ Whole k n
+by-number : (p : List ℕ → Parsed) (k : ℕ) (b rest : List ℕ) → by_kind p (kind_number (kind_at k)) b rest ≡ by_kind p k b rest
+by-number p zero b rest = refl
+by-number p (suc zero) b rest = refl
+by-number p (suc (suc zero)) b rest = refl
+by-number p (suc (suc (suc zero))) b rest = refl
+by-number p (suc (suc (suc (suc k)))) b rest = refl
+
+parse-at : (s : List ℕ) (at d k n : ℕ) → (d ≡ 0 → ⊥) → record_of (drop at s) ≡ whole_record k n
     → parse d (drop at s) ≡ by_kind (parse (d - 1)) k (take n (drop (at + 2) s)) (drop (at + 2 + n) s)
 unfolding parse
 parse-at s at zero k n h e = absurd (h refl)
-parse-at s at (suc d) k n h e = rw (e, drop-drop 2 at s, drop-drop n (at + 2) s, sub-one (suc d))
+parse-at s at (suc d) k n h e = rw (e, by-number (parse d) k _ _, drop-drop 2 at s, drop-drop n (at + 2) s, sub-one (suc d))
+
+-- the answer for a Fork, by those for its children
+abbrev pub joined : Step → Option Step → Option Step
+joined l (Some r) = Some (record { next = r.next; digest = fork_hash l.digest r.digest })
+joined l None = None
+
+-- the answer for a Labeled, by that for its child
+abbrev pub labels : List ℕ → Option Step → Option Step
+labels b (Some t) = Some (record { next = t.next; digest = labeled_hash b t.digest })
+labels b None = None
 
 -- what is left after a parse within s is s from some place on
 abbrev Left : List ℕ → Parsed → Type 0
@@ -89,9 +112,9 @@ module _ (s : List ℕ) where
     by-kind-left (suc (suc (suc zero))) b n = (n, refl)
     by-kind-left (suc (suc (suc (suc k)))) b n = (n, refl)
 
-    grow-left : (at : ℕ) (r : Record) → Left s (grow p (drop at s) r)
-    grow-left at (Whole k n) = rw (drop-drop 2 at s, drop-drop n (at + 2) s) (by-kind-left k (take n (drop (at + 2) s)) (at + 2 + n))
-    grow-left at Malformed = tt
+    grow-left : (at : ℕ) (r : Option Record) → Left s (grow p (drop at s) r)
+    grow-left at (Some r) = rw (drop-drop 2 at s, drop-drop r.len (at + 2) s) (by-kind-left (kind_number r.kind) (take r.len (drop (at + 2) s)) (at + 2 + r.len))
+    grow-left at None = tt
 
   pub left : (d at : ℕ) → Left s (parse d (drop at s))
   unfolding parse
@@ -115,64 +138,63 @@ module _ (s : List ℕ) where
   back : (rest : List ℕ) (n : ℕ) → rest ≡ drop n s → drop (length s - length rest) s ≡ rest
   back rest n e = back_by rest n (leb n (length s)) refl e (ap length e ∙ length-drop n s)
 
-  pub step-bad : (q : Step) (z : Parsed) → q ≡ bad_step → z ≡ Bad → q ≡ step_of s z
-  step-bad q z e f = rw (e, f)
-
   module _ (p : List ℕ → Parsed) where
-    pub fork-bad : (l : Step) (z : Parsed) → l ≡ step_of s z → l.ok ≡ false → fork p z ≡ Bad
-    fork-bad l (Got t rest) h e = let z : true ≡ false = cc in absurd (no_true z)
-    fork-bad l Bad h e = refl
+    step-none : (z : Parsed) → step_of s z ≡ None → step_of s (fork p z) ≡ None
+    step-none (Got t rest) e = let z : ◌≡◌ {A = ℕ} 0 1 = cc in absurd (omega arith)
+    step-none Bad e = refl
 
-    step-forked : (l r q : Step) (t : HashTree) (z : Parsed) → l.digest ≡ digest t → r ≡ step_of s z → q ≡ join_fork l r → q ≡ step_of s (forked t z)
-    step-forked l r q t (Got u rest) dl h e = rw (e, h, dl)
-    step-forked l r q t Bad dl h e = rw (e, h)
+    step-forked : (l : Step) (t : HashTree) (z : Parsed) → l.digest ≡ digest t → step_of s (forked t z) ≡ joined l (step_of s z)
+    step-forked l t (Got u rest) e = rw e
+    step-forked l t Bad e = refl
 
-    pub step-fork : (l r q : Step) (z : Parsed) → Left s z → l ≡ step_of s z → l.ok ≡ true → r ≡ step_of s (p (drop l.next s)) → q ≡ join_fork l r → q ≡ step_of s (fork p z)
-    step-fork l r q (Got t rest) f h e g j =
-        let n : l.next ≡ length s - length rest = ap (λ (x : Step). x.next) h in
-        step-forked l r q t (p rest) (ap (λ (x : Step). x.digest) h) (rw (n, back rest f.0 f.1) at g) j
-    step-fork l r q Bad f h e g j = let z : true ≡ false = cc in absurd (no_true z)
+    step-fork : (l : Step) (z : Parsed) → Left s z → step_of s z ≡ Some l → step_of s (fork p z) ≡ joined l (step_of s (p (drop l.next s)))
+    step-fork l (Got t rest) f e =
+        let n : l.next ≡ length s - length rest = cc in
+        let d : l.digest ≡ digest t = cc in
+        rw (n, back rest f.0 f.1) (step-forked l t (p rest) d)
+    step-fork l Bad f e = let y : ◌≡◌ {A = ℕ} 0 1 = cc in absurd (omega arith)
 
-    pub step-labeled : (b : List ℕ) (t q : Step) (z : Parsed) → t ≡ step_of s z → q ≡ join_labeled b t → q ≡ step_of s (labeled b z)
-    step-labeled b t q (Got u rest) h e = rw (e, h)
-    step-labeled b t q Bad h e = rw (e, h)
+    step-labeled : (b : List ℕ) (z : Parsed) → step_of s (labeled b z) ≡ labels b (step_of s z)
+    step-labeled b (Got u rest) = refl
+    step-labeled b Bad = refl
 
     -- a record with no children ends where its bytes end
     ends : (n : ℕ) → n ≤ length s → length s - length (drop n s) ≡ n
     ends n h = omega (arith, length-drop n s)
 
-    pub step-single : (k : ℕ) (b : List ℕ) (n : ℕ) (q : Step) → k < 5 → (k ≡ 1 → ⊥) → (k ≡ 2 → ⊥) → n ≤ length s → q ≡ single_step k b n → q ≡ step_of s (by_kind p k b (drop n s))
-    step-single zero b n q h h₁ h₂ f e = rw (e, ends n f)
-    step-single (suc zero) b n q h h₁ h₂ f e = absurd (h₁ refl)
-    step-single (suc (suc zero)) b n q h h₁ h₂ f e = absurd (h₂ refl)
-    step-single (suc (suc (suc zero))) b n q h h₁ h₂ f e = rw (e, ends n f)
-    step-single (suc (suc (suc (suc zero)))) b n q h h₁ h₂ f e = rw (e, ends n f)
-    step-single (suc (suc (suc (suc (suc k))))) b n q h h₁ h₂ f e = absurd (omega arith)
+    step-single : (k : ℕ) (b : List ℕ) (n : ℕ) → k < 5 → (k ≡ 1 → ⊥) → (k ≡ 2 → ⊥) → n ≤ length s
+        → step_of s (by_kind p k b (drop n s)) ≡ Some (record { next = n; digest = single_digest k b })
+    step-single zero b n h h₁ h₂ f = rw (ends n f)
+    step-single (suc zero) b n h h₁ h₂ f = absurd (h₁ refl)
+    step-single (suc (suc zero)) b n h h₁ h₂ f = absurd (h₂ refl)
+    step-single (suc (suc (suc zero))) b n h h₁ h₂ f = rw (ends n f)
+    step-single (suc (suc (suc (suc zero)))) b n h h₁ h₂ f = rw (ends n f)
+    step-single (suc (suc (suc (suc (suc k))))) b n h h₁ h₂ f = absurd (omega arith)
 
   -- the whole input, by the step's answer
+  pub none-alone : (z : Parsed) → step_of s z ≡ None → alone z ≡ refused
+  none-alone (Got t rest) e = let y : ◌≡◌ {A = ℕ} 0 1 = cc in absurd (omega arith)
+  none-alone Bad e = refl
+
   module _ (q : Step) where
-    pub none-alone : (z : Parsed) → q ≡ step_of s z → q.ok ≡ false → alone z ≡ refused
-    none-alone (Got t rest) h e = let y : true ≡ false = cc in absurd (no_true y)
-    none-alone Bad h e = refl
+    pub more-alone : (z : Parsed) → step_of s z ≡ Some q → (q.next ≡ length s → ⊥) → alone z ≡ refused
+    more-alone (Got t []) e l = let n : q.next ≡ length s - 0 = cc in absurd (l (omega arith))
+    more-alone (Got t (x ∷ rest)) e l = refl
+    more-alone Bad e l = refl
 
-    pub more-alone : (z : Parsed) → q ≡ step_of s z → q.next < length s → alone z ≡ refused
-    more-alone (Got t []) h l = absurd (omega (arith, ap (λ (x : Step). x.next) h))
-    more-alone (Got t (x ∷ rest)) h l = refl
-    more-alone Bad h l = refl
-
-    pub all-alone : (z : Parsed) → Left s z → q ≡ step_of s z → q.ok ≡ true → length s ≤ q.next → alone z ≡ accepted q.digest
-    all-alone (Got t []) f h e l = ap (λ (x : Step). accepted x.digest) (sym h)
-    all-alone (Got t (x ∷ rest)) f h e l = absurd (omega (arith, ap (λ (y : Step). y.next) h, ap length f.1, length-drop f.0 s))
-    all-alone Bad f h e l = let y : true ≡ false = cc in absurd (no_true y)
+    pub all-alone : (z : Parsed) → Left s z → step_of s z ≡ Some q → q.next ≡ length s → alone z ≡ accepted q.digest
+    all-alone (Got t []) f e l = let d : digest t ≡ q.digest = cc in rw d
+    all-alone (Got t (x ∷ rest)) f e l = let n : q.next ≡ length s - suc (length rest) = cc in absurd (omega (arith, ap length f.1, length-drop f.0 s))
+    all-alone Bad f e l = let y : ◌≡◌ {A = ℕ} 0 1 = cc in absurd (omega arith)
 
 -- what is known once a whole record has been read at a place
 pub record Known (s : List ℕ) (at d k n : ℕ) : Type 0 where
   pub pos : d ≡ 0 → ⊥
-  pub opens : record_of (drop at s) ≡ Whole k n
+  pub opens : record_of (drop at s) ≡ whole_record k n
   pub seen : Seen s at k n
 
-pub knows : (s : List ℕ) (at d k n : ℕ) → (d ≡ 0 → ⊥) → record_of (drop at s) ≡ Whole k n → Known s at d k n
-knows s at d k n h e = record { pos = h; opens = e; seen = seen s at k n e }
+pub knows : (s : List ℕ) (at d : ℕ) (kind : Kind) (n : ℕ) → (d ≡ 0 → ⊥) → record_of (drop at s) ≡ a_record kind n → Known s at d (kind_number kind) n
+knows s at d kind n h e = record { pos = h; opens = e ∙ ap (λ (k : Kind). a_record k n) (sym (kind-back kind)); seen = seen s at kind n e }
 
 -- the parse at a place, by its record's kind
 module _ (s : List ℕ) (at d k n : ℕ) (h : Known s at d k n) where
@@ -184,3 +206,17 @@ module _ (s : List ℕ) (at d k n : ℕ) (h : Known s at d k n) where
 
   pub at-labeled : k ≡ 2 → parse d (drop at s) ≡ labeled (take n (drop (at + 2) s)) (parse (d - 1) (drop (at + 2 + n) s))
   at-labeled f = at-kind ∙ rw f
+
+  -- the answer at a place, by the answers one record deeper
+  pub fork-none : k ≡ 1 → step_of s (parse (d - 1) (drop (at + 2 + n) s)) ≡ None → step_of s (parse d (drop at s)) ≡ None
+  fork-none f e = rw (at_fork f) (step-none s (parse (d - 1)) (parse (d - 1) (drop (at + 2 + n) s)) e)
+
+  pub fork-then : k ≡ 1 → (l : Step) → step_of s (parse (d - 1) (drop (at + 2 + n) s)) ≡ Some l
+      → step_of s (parse d (drop at s)) ≡ joined l (step_of s (parse (d - 1) (drop l.next s)))
+  fork-then f l e = rw (at_fork f) (step-fork s (parse (d - 1)) l (parse (d - 1) (drop (at + 2 + n) s)) (left s (d - 1) (at + 2 + n)) e)
+
+  pub labeled-then : k ≡ 2 → step_of s (parse d (drop at s)) ≡ labels (take n (drop (at + 2) s)) (step_of s (parse (d - 1) (drop (at + 2 + n) s)))
+  labeled-then f = rw (at-labeled f) (step-labeled s (parse (d - 1)) (take n (drop (at + 2) s)) (parse (d - 1) (drop (at + 2 + n) s)))
+
+  pub single-then : (k ≡ 1 → ⊥) → (k ≡ 2 → ⊥) → step_of s (parse d (drop at s)) ≡ Some (record { next = at + 2 + n; digest = single_digest k (take n (drop (at + 2) s)) })
+  single-then f g = rw at-kind (step-single s (parse (d - 1)) k (take n (drop (at + 2) s)) (at + 2 + n) h.seen.kind f g h.seen.fits)

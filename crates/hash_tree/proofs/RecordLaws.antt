@@ -1,5 +1,6 @@
 -- The laws of a record: what `record_of` says, read back as facts; the same at a place of a slice, in the code's words.
-use Prim.Native.Nat.{ℕ, ◌+◌, ◌-◌, ◌*◌, ◌/◌, ◌%◌, ◌<◌, ◌≤◌}
+use Prim.Native.Nat.{ℕ, zero, suc, ◌+◌, ◌-◌, ◌*◌, ◌/◌, ◌%◌, ◌<◌, ◌≤◌}
+use Rattle.std.specs.Prelude.{Option, Some, None, cond}
 use mathlib.Core.Path.{◌≡◌, refl, sym, ap, ap₂, ◌∙◌}
 use mathlib.Core.Bool.{Bool, true, false}
 use mathlib.Core.List.{List, [], ◌∷◌, ◌++◌}
@@ -8,20 +9,79 @@ use native.Mathlib.Nat.{add-zero, not-suc-le-zero}
 use lib.ListN.{length, take, drop, get_or, length-append, length-drop, take-append-drop}
 use lib.Seq.{get_or-drop, length-take-le}
 use lib.Dec.{eqb, lit<}
+use Rattle.std.proofs.Common.{le-ltb}
 use borrow.Author.Tests.{leb-true, leb-false, ltb-true, ltb-false}
 use Rattle.hash_tree.specs.declared.Record.{Record}
-use Rattle.hash_tree.specs.declared.Record.TheVariants.{Whole, Malformed}
 use Rattle.hash_tree.specs.Written.{piece, max_label, max_value, digest_len}
-use Rattle.hash_tree.specs.Record.{pick_record, pick_nat, record_of, Opens, kind_of, len_of, least, most}
+use Rattle.hash_tree.specs.declared.Kind.{Kind}
+use Rattle.hash_tree.specs.declared.Kind.TheVariants.{Empty, Fork, Labeled, Leaf, Pruned}
+use Rattle.hash_tree.specs.Record.{kind_number, kind_at, kind_of_number, whole_record, pick_nat, record_of, Opens, kind_of, len_of, least, most}
 use Rattle.hash_tree.specs.Parse.{Bytes}
 
+-- kinds and their numbers
+pub numbered : (k : ℕ) → k < 5 → kind_number (kind_at k) ≡ k
+numbered zero h = refl
+numbered (suc zero) h = refl
+numbered (suc (suc zero)) h = refl
+numbered (suc (suc (suc zero))) h = refl
+numbered (suc (suc (suc (suc zero)))) h = refl
+numbered (suc (suc (suc (suc (suc k))))) h = absurd (omega arith)
+
+pub kind-back : (kind : Kind) → kind_at (kind_number kind) ≡ kind
+kind-back Empty = refl
+kind-back Fork = refl
+kind-back Labeled = refl
+kind-back Leaf = refl
+kind-back Pruned = refl
+
+pub number_lt : (kind : Kind) → kind_number kind < 5
+number_lt Empty = omega arith
+number_lt Fork = omega arith
+number_lt Labeled = omega arith
+number_lt Leaf = omega arith
+number_lt Pruned = omega arith
+
+pub is_fork : (kind : Kind) → kind_number kind ≡ 1 → kind ≡ Fork
+is_fork Empty e = absurd (omega (arith, e))
+is_fork Fork e = refl
+is_fork Labeled e = absurd (omega (arith, e))
+is_fork Leaf e = absurd (omega (arith, e))
+is_fork Pruned e = absurd (omega (arith, e))
+
+pub is_labeled : (kind : Kind) → kind_number kind ≡ 2 → kind ≡ Labeled
+is_labeled Empty e = absurd (omega (arith, e))
+is_labeled Fork e = absurd (omega (arith, e))
+is_labeled Labeled e = refl
+is_labeled Leaf e = absurd (omega (arith, e))
+is_labeled Pruned e = absurd (omega (arith, e))
+
+-- a number with a kind, and one without
+pub with_kind : (k : ℕ) (kind : Kind) → kind_of_number k ≡ Some kind → (k < 5) × (kind_at k ≡ kind)
+with_kind zero kind e = (omega arith, cc)
+with_kind (suc zero) kind e = (omega arith, cc)
+with_kind (suc (suc zero)) kind e = (omega arith, cc)
+with_kind (suc (suc (suc zero))) kind e = (omega arith, cc)
+with_kind (suc (suc (suc (suc zero)))) kind e = (omega arith, cc)
+with_kind (suc (suc (suc (suc (suc k))))) kind e =
+    let above : None ≡ Some kind = rw (le-ltb (suc (suc (suc (suc (suc k))))) 5 (omega arith)) at e in
+    let z : ◌≡◌ {A = ℕ} 0 1 = cc in
+    absurd (omega arith)
+
+pub no_kind : (k : ℕ) → kind_of_number k ≡ None → k < 5 → ⊥
+no_kind zero e h = let z : ◌≡◌ {A = ℕ} 0 1 = cc in omega arith
+no_kind (suc zero) e h = let z : ◌≡◌ {A = ℕ} 0 1 = cc in omega arith
+no_kind (suc (suc zero)) e h = let z : ◌≡◌ {A = ℕ} 0 1 = cc in omega arith
+no_kind (suc (suc (suc zero))) e h = let z : ◌≡◌ {A = ℕ} 0 1 = cc in omega arith
+no_kind (suc (suc (suc (suc zero)))) e h = let z : ◌≡◌ {A = ℕ} 0 1 = cc in omega arith
+no_kind (suc (suc (suc (suc (suc k))))) e h = omega arith
+
 -- a record of xs, by what it is
-pub data View (xs : List ℕ) : Record → Type 0 where
-  whole : Opens xs → View xs (Whole (kind_of xs) (len_of xs))
-  bad : (Opens xs → ⊥) → View xs Malformed
+pub data View (xs : List ℕ) : Option Record → Type 0 where
+  whole : Opens xs → View xs (whole_record (kind_of xs) (len_of xs))
+  bad : (Opens xs → ⊥) → View xs None
 
 module _ (xs : List ℕ) where
-  test : (t : Bool) (x : Record) → (t ≡ true → View xs x) → (t ≡ false → Opens xs → ⊥) → View xs (pick_record t x Malformed)
+  test : (t : Bool) (x : Option Record) → (t ≡ true → View xs x) → (t ≡ false → Opens xs → ⊥) → View xs (cond t x None)
   test true x h g = h refl
   test false x h g = bad (g refl)
 
@@ -36,18 +96,18 @@ module _ (xs : List ℕ) where
       (λ f o. omega (arith, ltb-false)))
       (λ f o. omega (arith, leb-false))
 
-  is_whole : (r : Record) → View xs r → Opens xs → r ≡ Whole (kind_of xs) (len_of xs)
+  is_whole : (r : Option Record) → View xs r → Opens xs → r ≡ whole_record (kind_of xs) (len_of xs)
   is_whole r (whole o) h = refl
   is_whole r (bad f) h = absurd (f h)
 
-  is-bad : (r : Record) → View xs r → (Opens xs → ⊥) → r ≡ Malformed
+  is-bad : (r : Option Record) → View xs r → (Opens xs → ⊥) → r ≡ None
   is-bad r (whole o) h = absurd (h o)
   is-bad r (bad f) h = refl
 
-  pub opens : Opens xs → record_of xs ≡ Whole (kind_of xs) (len_of xs)
+  pub opens : Opens xs → record_of xs ≡ whole_record (kind_of xs) (len_of xs)
   opens = is_whole (record_of xs) view
 
-  pub shuts : (Opens xs → ⊥) → record_of xs ≡ Malformed
+  pub shuts : (Opens xs → ⊥) → record_of xs ≡ None
   shuts = is-bad (record_of xs) view
 
 -- at a place of a slice: a and b are the two bytes there, and the five tests are what the code does
@@ -59,11 +119,11 @@ module _ (s : List ℕ) (at a b : ℕ) (ea : a ≡ get_or s at 0) (eb : b ≡ ge
   second = eb ∙ sym (get_or-drop at s 1 0)
 
   pub shuts-at : (2 ≤ length s - at → a / 32 < 5 → least (a / 32) ≤ a % 32 * 256 + b → a % 32 * 256 + b ≤ most (a / 32) → a % 32 * 256 + b ≤ length s - at - 2 → ⊥)
-      → record_of (drop at s) ≡ Malformed
+      → record_of (drop at s) ≡ None
   shuts-at f = shuts (drop at s) (λ o. (rw (first, second, ← length-drop at s) at f) o.two o.kind o.low o.high o.body)
 
   pub opens_at : 2 ≤ length s - at → a / 32 < 5 → least (a / 32) ≤ a % 32 * 256 + b → a % 32 * 256 + b ≤ most (a / 32) → a % 32 * 256 + b ≤ length s - at - 2
-      → record_of (drop at s) ≡ Whole (a / 32) (a % 32 * 256 + b)
+      → record_of (drop at s) ≡ whole_record (a / 32) (a % 32 * 256 + b)
   opens_at h₁ h₂ h₃ h₄ h₅ =
       rw (first, second)
       (opens (drop at s)
@@ -98,11 +158,11 @@ module _ (k : ℕ) (b rest : List ℕ) (kind : k < 5) (low : least k ≤ length 
   unfolding piece
   piece-body = omega (arith, length-append b rest)
 
-  pub piece-opens : record_of (piece k b ++ rest) ≡ Whole k (length b)
+  pub piece-opens : record_of (piece k b ++ rest) ≡ whole_record k (length b)
   piece-opens =
       opens (piece k b ++ rest)
       (record { two = piece-two; kind = rw piece_kind kind; low = rw (piece_kind, piece-len) low; high = rw (piece_kind, piece-len) high; body = rw piece-len piece-body })
-      ∙ ap₂ Whole piece_kind piece-len
+      ∙ ap₂ whole_record piece_kind piece-len
 
 -- a record that opens is the written one
 header-back : (x y : ℕ) (xs b r : List ℕ) → length b ≡ x % 32 * 256 + y → y < 256 → b ++ r ≡ xs → x ∷ y ∷ xs ≡ piece (x / 32) b ++ r

@@ -6,14 +6,13 @@ use native.Mathlib.Omega.{arith}
 use lib.ListN.{length, take, drop, length-drop}
 use lib.Seq.{drop-drop, length-take-le}
 use Rattle.hash_tree.specs.declared.Record.{Record}
-use Rattle.hash_tree.specs.declared.Place.{Place}
-use Rattle.hash_tree.specs.declared.Place.TheVariants.{At, Nothing}
+use Rattle.std.specs.Prelude.{Option, Some, None}
 use Rattle.hash_tree.specs.HashTree.{HashTree}
 use Rattle.hash_tree.specs.Written.{size}
 use Rattle.hash_tree.specs.Record.{record_of, kind_of, len_of, most}
 use Rattle.hash_tree.specs.Parse.{Parsed, Got, Bad, parse, grow, by_kind, labeled, forked, fork}
 use Rattle.hash_tree.specs.Steps.{place_of}
-use Rattle.hash_tree.proofs.RecordLaws.{View, whole, bad, view, body-length}
+use Rattle.hash_tree.proofs.RecordLaws.{View, whole, bad, view, numbered, body-length}
 use Rattle.hash_tree.proofs.Rebuilding.{Known, at-kind, at_fork, at-labeled}
 
 -- a tree that was parsed at a place ends so many bytes further on
@@ -55,11 +54,11 @@ module _ (s : List ℕ) where
     by-kind-stands at (suc (suc (suc zero))) b n e m h = single-stands at n (2 + length b) h (omega arith)
     by-kind-stands at (suc (suc (suc (suc k)))) b n e m h = single-stands at n (2 + length b) h (omega arith)
 
-    grow-stands : (at : ℕ) (r : Record) → View (drop at s) r → Stands s at (grow p (drop at s) r)
+    grow-stands : (at : ℕ) (r : Option Record) → View (drop at s) r → Stands s at (grow p (drop at s) r)
     grow-stands at r (whole o) =
         let l = length-drop at s in
         let w = body-length (drop at s) o in
-        rw (drop-drop 2 at s, drop-drop (len_of (drop at s)) (at + 2) s)
+        rw (numbered (kind_of (drop at s)) o.kind, drop-drop 2 at s, drop-drop (len_of (drop at s)) (at + 2) s)
         (by-kind-stands at (kind_of (drop at s)) (take (len_of (drop at s)) (drop (at + 2) s)) (len_of (drop at s)) (rw (drop-drop 2 at s) at w) o.high (omega (arith, l, o.two, o.body)))
     grow-stands at r (bad f) = tt
 
@@ -70,36 +69,36 @@ module _ (s : List ℕ) where
 
 -- ---- tree_at
 
-pub place-bad : (at : ℕ) (z : Parsed) → z ≡ Bad → Nothing ≡ place_of at z
+pub place-bad : (at : ℕ) (z : Parsed) → z ≡ Bad → None ≡ place_of at z
 place-bad at z e = rw e
 
 module _ (s : List ℕ) (p : List ℕ → Parsed) where
-  pub place-fork-bad : (at next : ℕ) (z : Parsed) → place_of next z ≡ Nothing → Nothing ≡ place_of at (fork p z)
+  pub place-fork-bad : (at next : ℕ) (z : Parsed) → place_of next z ≡ None → None ≡ place_of at (fork p z)
   place-fork-bad at next (Got t rest) e = let y : ◌≡◌ {A = ℕ} 0 1 = cc in absurd (omega arith)
   place-fork-bad at next Bad e = refl
 
   place-forked : (at : ℕ) (l : HashTree) (z : Parsed) → place_of (at + 2 + size l) z ≡ place_of at (forked l z)
-  place-forked at l (Got r rest) = let e : at + 2 + size l + size r ≡ at + (2 + (size l + size r)) = omega arith in ap At e
+  place-forked at l (Got r rest) = let e : at + 2 + size l + size r ≡ at + (2 + (size l + size r)) = omega arith in ap Some e
   place-forked at l Bad = refl
 
-  pub place-fork : (at middle : ℕ) (q : Place) (z : Parsed) → Stands s (at + 2) z → place_of (at + 2) z ≡ At middle → q ≡ place_of middle (p (drop middle s)) → q ≡ place_of at (fork p z)
+  pub place-fork : (at middle : ℕ) (q : Option ℕ) (z : Parsed) → Stands s (at + 2) z → place_of (at + 2) z ≡ Some middle → q ≡ place_of middle (p (drop middle s)) → q ≡ place_of at (fork p z)
   place-fork at middle q (Got l rest) h e f =
       let m : at + 2 + size l ≡ middle = cc in
       let g : q ≡ place_of (at + 2 + size l) (p (drop (at + 2 + size l) s)) = rw m f in
       (rw (← h.0) at g) ∙ place-forked at l (p rest)
   place-fork at middle q Bad h e f = let y : ◌≡◌ {A = ℕ} 0 1 = cc in absurd (omega arith)
 
-  pub place-labeled : (at n : ℕ) (b : List ℕ) (q : Place) (z : Parsed) → length b ≡ n → q ≡ place_of (at + 2 + n) z → q ≡ place_of at (labeled b z)
-  place-labeled at n b q (Got t rest) e f = let y : at + 2 + n + size t ≡ at + (2 + (length b + size t)) = omega arith in f ∙ ap At y
+  pub place-labeled : (at n : ℕ) (b : List ℕ) (q : Option ℕ) (z : Parsed) → length b ≡ n → q ≡ place_of (at + 2 + n) z → q ≡ place_of at (labeled b z)
+  place-labeled at n b q (Got t rest) e f = let y : at + 2 + n + size t ≡ at + (2 + (length b + size t)) = omega arith in f ∙ ap Some y
   place-labeled at n b q Bad e f = f
 
-  pub place-single : (at k n : ℕ) (b r : List ℕ) → k < 5 → n ≤ most k → (k ≡ 1 → ⊥) → (k ≡ 2 → ⊥) → length b ≡ n → At (at + 2 + n) ≡ place_of at (by_kind p k b r)
+  pub place-single : (at k n : ℕ) (b r : List ℕ) → k < 5 → n ≤ most k → (k ≡ 1 → ⊥) → (k ≡ 2 → ⊥) → length b ≡ n → Some (at + 2 + n) ≡ place_of at (by_kind p k b r)
   unfolding most
-  place-single at zero n b r h m h₁ h₂ e = let y : at + 2 + n ≡ at + 2 = omega arith in ap At y
+  place-single at zero n b r h m h₁ h₂ e = let y : at + 2 + n ≡ at + 2 = omega arith in ap Some y
   place-single at (suc zero) n b r h m h₁ h₂ e = absurd (h₁ refl)
   place-single at (suc (suc zero)) n b r h m h₁ h₂ e = absurd (h₂ refl)
-  place-single at (suc (suc (suc zero))) n b r h m h₁ h₂ e = let y : at + 2 + n ≡ at + (2 + length b) = omega arith in ap At y
-  place-single at (suc (suc (suc (suc zero)))) n b r h m h₁ h₂ e = let y : at + 2 + n ≡ at + (2 + length b) = omega arith in ap At y
+  place-single at (suc (suc (suc zero))) n b r h m h₁ h₂ e = let y : at + 2 + n ≡ at + (2 + length b) = omega arith in ap Some y
+  place-single at (suc (suc (suc (suc zero)))) n b r h m h₁ h₂ e = let y : at + 2 + n ≡ at + (2 + length b) = omega arith in ap Some y
   place-single at (suc (suc (suc (suc (suc k))))) n b r h m h₁ h₂ e = absurd (omega arith)
 
 -- ---- at a whole record
@@ -115,20 +114,20 @@ module _ (s : List ℕ) (at d k n : ℕ) (h : Known s at d k n) where
   after-fork : k ≡ 1 → at + 2 + n ≡ at + 2
   after-fork e = let z = none-own k n h.seen.high e in omega arith
 
-  pub tree-fork-bad : k ≡ 1 → place_of (at + 2 + n) (parse (d - 1) (drop (at + 2 + n) s)) ≡ Nothing → Nothing ≡ place_of at (parse d (drop at s))
+  pub tree-fork-bad : k ≡ 1 → place_of (at + 2 + n) (parse (d - 1) (drop (at + 2 + n) s)) ≡ None → None ≡ place_of at (parse d (drop at s))
   tree-fork-bad e f = rw (at_fork s at d k n h e) (place-fork-bad s (parse (d - 1)) at (at + 2 + n) (parse (d - 1) (drop (at + 2 + n) s)) f)
 
-  pub tree-fork : k ≡ 1 → (middle : ℕ) (q : Place) → place_of (at + 2 + n) (parse (d - 1) (drop (at + 2 + n) s)) ≡ At middle → q ≡ place_of middle (parse (d - 1) (drop middle s)) → q ≡ place_of at (parse d (drop at s))
+  pub tree-fork : k ≡ 1 → (middle : ℕ) (q : Option ℕ) → place_of (at + 2 + n) (parse (d - 1) (drop (at + 2 + n) s)) ≡ Some middle → q ≡ place_of middle (parse (d - 1) (drop middle s)) → q ≡ place_of at (parse d (drop at s))
   tree-fork e middle q f g =
       rw (at_fork s at d k n h e, after-fork e)
       (place-fork s (parse (d - 1)) at middle q (parse (d - 1) (drop (at + 2) s)) (stands s (d - 1) (at + 2)) (rw (after-fork e) at f) g)
 
-  pub tree-labeled : k ≡ 2 → (q : Place) → q ≡ place_of (at + 2 + n) (parse (d - 1) (drop (at + 2 + n) s)) → q ≡ place_of at (parse d (drop at s))
+  pub tree-labeled : k ≡ 2 → (q : Option ℕ) → q ≡ place_of (at + 2 + n) (parse (d - 1) (drop (at + 2 + n) s)) → q ≡ place_of at (parse d (drop at s))
   tree-labeled e q f =
       rw (at-labeled s at d k n h e)
       (place-labeled s (parse (d - 1)) at n (take n (drop (at + 2) s)) q (parse (d - 1) (drop (at + 2 + n) s)) (body s at n h.seen.fits) f)
 
-  pub tree-single : (k ≡ 1 → ⊥) → (k ≡ 2 → ⊥) → At (at + 2 + n) ≡ place_of at (parse d (drop at s))
+  pub tree-single : (k ≡ 1 → ⊥) → (k ≡ 2 → ⊥) → Some (at + 2 + n) ≡ place_of at (parse d (drop at s))
   tree-single f g =
       rw (at-kind s at d k n h)
       (place-single s (parse (d - 1)) at k n (take n (drop (at + 2) s)) (drop (at + 2 + n) s) h.seen.kind h.seen.high f g (body s at n h.seen.fits))

@@ -1,11 +1,10 @@
 -- A form that trees may be written in: how a record and its bytes are put, and how the record at the front of a list is taken off.
 -- Document 01's written form is one (specs/Written, specs/Parse); CBOR's is another.
-use Rattle.std.specs.Prelude.{ℕ, zero, suc, ◌≤◌, ◌<◌, List, [], ◌++◌, length, take, drop}
+use Rattle.std.specs.Prelude.{ℕ, zero, suc, ◌≤◌, ◌<◌, List, [], ◌++◌, Option, Some, None, length, take, drop}
 use Rattle.hash_tree.specs.declared.Record.{Record}
-use Rattle.hash_tree.specs.declared.Record.TheVariants.{Whole, Malformed}
 use Rattle.hash_tree.specs.HashTree.{HashTree, Empty, Fork, Labeled, Leaf, Pruned}
 use Rattle.hash_tree.specs.Written.{piece}
-use Rattle.hash_tree.specs.Record.{record_of, least, most}
+use Rattle.hash_tree.specs.Record.{kind_number, record_of, least, most}
 use Rattle.hash_tree.specs.Parse.{Parsed, Bad, by_kind}
 
 -- a record's kind, its bytes and what follows them; or no record
@@ -41,9 +40,9 @@ parse_by f zero xs = Bad
 parse_by f (suc d) xs = grow_by (λ ys. parse_by f d ys) (f.front xs)
 
 -- document 01's form
-abbrev pub front_of : List ℕ → Record → Front
-front_of xs (Whole k n) = Taken k (take n (drop 2 xs)) (drop n (drop 2 xs))
-front_of xs Malformed = Shut
+abbrev pub front_of : List ℕ → Option Record → Front
+front_of xs (Some r) = Taken (kind_number r.kind) (take r.len (drop 2 xs)) (drop r.len (drop 2 xs))
+front_of xs None = Shut
 
 abbrev pub written : Form
 written = record { put = piece; front = λ xs. front_of xs (record_of xs) }

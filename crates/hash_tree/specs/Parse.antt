@@ -1,9 +1,8 @@
 -- The tree at the front of a list of bytes, with what is left of the list.
-use Rattle.std.specs.Prelude.{ℕ, zero, suc, ◌<◌, List, take, drop, get_or}
+use Rattle.std.specs.Prelude.{ℕ, zero, suc, ◌<◌, List, Option, Some, None, take, drop, get_or}
 use Rattle.hash_tree.specs.declared.Record.{Record}
-use Rattle.hash_tree.specs.declared.Record.TheVariants.{Whole, Malformed}
 use Rattle.hash_tree.specs.HashTree.{HashTree, Empty, Fork, Labeled, Leaf, Pruned}
-use Rattle.hash_tree.specs.Record.{record_of}
+use Rattle.hash_tree.specs.Record.{kind_number, record_of}
 
 pub data Parsed : Type 0 where
   Got : HashTree → List ℕ → Parsed
@@ -29,9 +28,9 @@ by_kind p (suc (suc zero)) b rest = labeled b (p rest)
 by_kind p (suc (suc (suc zero))) b rest = Got (Leaf b) rest
 by_kind p (suc (suc (suc (suc n)))) b rest = Got (Pruned b) rest
 
-abbrev pub grow : (List ℕ → Parsed) → List ℕ → Record → Parsed
-grow p xs (Whole k n) = by_kind p k (take n (drop 2 xs)) (drop n (drop 2 xs))
-grow p xs Malformed = Bad
+abbrev pub grow : (List ℕ → Parsed) → List ℕ → Option Record → Parsed
+grow p xs (Some r) = by_kind p (kind_number r.kind) (take r.len (drop 2 xs)) (drop r.len (drop 2 xs))
+grow p xs None = Bad
 
 -- at most d records deep
 unfoldable pub parse : ℕ → List ℕ → Parsed

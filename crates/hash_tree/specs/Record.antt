@@ -1,12 +1,36 @@
--- The first record of a list of bytes, as the code's own enum answers it.
-use Rattle.std.specs.Prelude.{ℕ, ◌+◌, ◌-◌, ◌*◌, ◌/◌, ◌%◌, ◌≤◌, ◌<◌, List, Bool, true, false, length, drop, get_or, ltb, leb, eqb}
+-- The first record of a list of bytes.
+use Rattle.std.specs.Prelude.{ℕ, zero, suc, ◌+◌, ◌-◌, ◌*◌, ◌/◌, ◌%◌, ◌≤◌, ◌<◌, List, Bool, true, false, cond, Option, Some, None, length, drop, get_or, ltb, leb, eqb}
+use Rattle.hash_tree.specs.declared.Kind.{Kind}
+use Rattle.hash_tree.specs.declared.Kind.TheVariants.{Empty, Fork, Labeled, Leaf, Pruned}
 use Rattle.hash_tree.specs.declared.Record.{Record}
-use Rattle.hash_tree.specs.declared.Record.TheVariants.{Whole, Malformed}
 use Rattle.hash_tree.specs.Written.{max_label, max_value, digest_len}
 
-abbrev pub pick_record : Bool → Record → Record → Record
-pick_record true a b = a
-pick_record false a b = b
+-- the kinds of record by their numbers
+abbrev pub kind_number : Kind → ℕ
+kind_number Empty = 0
+kind_number Fork = 1
+kind_number Labeled = 2
+kind_number Leaf = 3
+kind_number Pruned = 4
+
+-- and back: the kind that a number up to 4 stands for
+abbrev pub kind_at : ℕ → Kind
+kind_at zero = Empty
+kind_at (suc zero) = Fork
+kind_at (suc (suc zero)) = Labeled
+kind_at (suc (suc (suc zero))) = Leaf
+kind_at (suc (suc (suc (suc n)))) = Pruned
+
+-- none above 4
+abbrev pub kind_of_number : ℕ → Option Kind
+kind_of_number k = cond (ltb k 5) (Some (kind_at k)) None
+
+-- a record with n bytes, of a kind and of a kind's number
+abbrev pub a_record : Kind → ℕ → Option Record
+a_record kind n = Some (record { kind = kind; len = n })
+
+abbrev pub whole_record : ℕ → ℕ → Option Record
+whole_record k n = a_record (kind_at k) n
 
 abbrev pub pick_nat : Bool → ℕ → ℕ → ℕ
 pick_nat true a b = a
@@ -35,22 +59,22 @@ pub record Opens (xs : List ℕ) : Type 0 where
   pub body : len_of xs ≤ length xs - 2
 
 -- the same five tests, one after the other
-unfoldable pub record_of : List ℕ → Record
+unfoldable pub record_of : List ℕ → Option Record
 record_of xs =
-    pick_record (leb 2 (length xs))
-    (pick_record (ltb (kind_of xs) 5)
-    (pick_record (leb (least (kind_of xs)) (len_of xs))
-    (pick_record (leb (len_of xs) (most (kind_of xs)))
-    (pick_record (leb (len_of xs) (length xs - 2)) (Whole (kind_of xs) (len_of xs)) Malformed)
-    Malformed)
-    Malformed)
-    Malformed)
-    Malformed
+    cond (leb 2 (length xs))
+    (cond (ltb (kind_of xs) 5)
+    (cond (leb (least (kind_of xs)) (len_of xs))
+    (cond (leb (len_of xs) (most (kind_of xs)))
+    (cond (leb (len_of xs) (length xs - 2)) (whole_record (kind_of xs) (len_of xs)) None)
+    None)
+    None)
+    None)
+    None
 
 -- the place after the record at a place: its head and its own bytes; a malformed one is not passed
-abbrev pub after_record : ℕ → Record → ℕ
-after_record at (Whole k n) = at + 2 + n
-after_record at Malformed = at
+abbrev pub after_record : ℕ → Option Record → ℕ
+after_record at (Some r) = at + 2 + r.len
+after_record at None = at
 
 unfoldable pub place_after : List ℕ → ℕ → ℕ
 place_after s at = after_record at (record_of (drop at s))

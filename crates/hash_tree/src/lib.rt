@@ -1,18 +1,22 @@
 // Hash trees: the four digests, and the digest of a tree rebuilt from its written form.
-#![tactic(auto)]
+#![tactic(auto, unfolding(crate::specs::HashTree::empty_hash, crate::specs::HashTree::fork_hash, crate::specs::HashTree::labeled_hash, crate::specs::HashTree::leaf_hash, crate::specs::Record::least, crate::specs::Record::most))]
 
-ghost use Rattle.std.specs.Prelude.{◌≡◌, ◌+◌, ◌-◌, ◌≤◌, ◌<◌, length, take, drop};
+ghost use Rattle.std.specs.Prelude.{◌≡◌, ◌-◌, ◌≤◌, ◌<◌, length, drop};
+ghost use Rattle.answers.specs.Numbers.{outcome};
+ghost use Rattle.answers.specs.Answers.{digested};
 ghost use Rattle.hash_tree.specs.HashTree.{empty_hash, fork_hash, labeled_hash, leaf_hash};
-ghost use Rattle.hash_tree.specs.Record.{record_of, place_after, least, most};
+ghost use Rattle.hash_tree.specs.Record.{kind_number, kind_of_number, record_of, place_after, least, most};
 ghost use Rattle.hash_tree.specs.Written.{max_depth};
 ghost use Rattle.hash_tree.specs.Parse.{parse};
-ghost use Rattle.hash_tree.specs.Steps.{bad_step, good_step, step_of, join_fork, join_labeled, single_step, place_of};
-ghost use Rattle.hash_tree.specs.Whole.{rebuilt, refused};
+ghost use Rattle.hash_tree.specs.Steps.{step_of, single_digest, place_of};
+ghost use Rattle.hash_tree.specs.Whole.{rebuilt};
 
-use answers::MALFORMED;
+use answers::Refusal;
 use sha256::joined;
 
 // A tag is one length byte and then the text. Labels, values and digests may be of any length here.
+
+// ---- the four digests, each by its name in the Interface Specification
 
 // The digest of Empty.
 pub fn empty_hash() -> [u8; 32]
@@ -51,269 +55,194 @@ pub const MAX_VALUE: usize = 64;
 
 pub const DIGEST_LEN: usize = 32;
 
-pub const EMPTY: usize = 0;
+// The kinds of record.
+#[derive(Clone, Copy, Debug, PartialEq, Eq)]
+pub enum Kind {
+    Empty,
+    Fork,
+    Labeled,
+    Leaf,
+    Pruned,
+}
 
-pub const FORK: usize = 1;
+impl Kind {
+    // What stands for it in the first 3 bits of a record.
+    pub fn number(self) -> usize
+        ensures { result ≡ kind_number self }
+    {
+        match self {
+            Kind::Empty => 0,
+            Kind::Fork => 1,
+            Kind::Labeled => 2,
+            Kind::Leaf => 3,
+            Kind::Pruned => 4,
+        }
+    }
 
-pub const LABELED: usize = 2;
-
-pub const LEAF: usize = 3;
-
-pub const PRUNED: usize = 4;
+    // The kind of a number; none above 4.
+    pub fn from_number(number: usize) -> Option<Kind>
+        ensures { result ≡ kind_of_number number }
+    {
+        match number {
+            0 => Some(Kind::Empty),
+            1 => Some(Kind::Fork),
+            2 => Some(Kind::Labeled),
+            3 => Some(Kind::Leaf),
+            4 => Some(Kind::Pruned),
+            _ => None,
+        }
+    }
+}
 
 // A record's head: its kind, and how many bytes of its own follow, all of them there.
 #[derive(Clone, Copy)]
-pub enum Record {
-    Whole { kind: usize, len: usize },
-    Malformed,
+pub struct Record {
+    pub kind: Kind,
+    pub len: usize,
 }
 
-// The least and the greatest number of bytes that a record of a kind has.
+// The least and the greatest number of bytes that a record of a kind has, by the kind's number: any number may arrive.
 pub fn least_len(kind: usize) -> usize
     ensures { result ≡ least kind }
 {
-    if kind == PRUNED { DIGEST_LEN } else { 0 }
+    if kind == 4 { DIGEST_LEN } else { 0 }
 }
 
 pub fn most_len(kind: usize) -> usize
     ensures { result ≡ most kind }
 {
-    if kind == LABELED {
-        MAX_LABEL
-    } else if kind == LEAF {
-        MAX_VALUE
-    } else if kind == PRUNED {
-        DIGEST_LEN
-    } else {
-        0
+    match kind {
+        2 => MAX_LABEL,
+        3 => MAX_VALUE,
+        4 => DIGEST_LEN,
+        _ => 0,
     }
 }
 
+// A byte as a number. It stays for its callers; usize::from does the same.
 pub fn wide(b: u8) -> usize
     ensures { (result ≡ b) × (result < 256) }
 {
-    b as usize
+    usize::from(b)
 }
 
 // How many bytes stand from a place on; none past the end.
 pub fn left_at(s: &[u8], at: usize) -> usize
     ensures { result ≡ length s.now - at }
 {
-    if at < s.len() { s.len() - at } else { 0 }
+    s.len().saturating_sub(at)
 }
 
-// The record that stands at a place.
-pub fn record_at(s: &[u8], at: usize) -> Record
+// The record that stands at a place; none if it is malformed.
+pub fn record_at(s: &[u8], at: usize) -> Option<Record>
     ensures { result ≡ record_of (drop at s.now) }
 {
     let left = left_at(s, at);
     if left < 2 {
-        return Record::Malformed;
+        return None;
     }
-    let a = wide(s[at]);
-    let b = wide(s[at + 1]);
-    let kind = a / 32;
+    let a = usize::from(s[at]);
+    let b = usize::from(s[at + 1]);
+    let number = a / 32;
+    let kind = Kind::from_number(number)?;
     let len = a % 32 * 256 + b;
-    if PRUNED < kind {
-        return Record::Malformed;
+    if least_len(number) <= len && len <= most_len(number) && len <= left - 2 {
+        Some(Record { kind, len })
+    } else {
+        None
     }
-    if len < least_len(kind) {
-        return Record::Malformed;
-    }
-    if most_len(kind) < len {
-        return Record::Malformed;
-    }
-    if left - 2 < len {
-        return Record::Malformed;
-    }
-    Record::Whole { kind, len }
 }
 
 // The place after the record at a place, where its first child or what follows it stands; the same place if it is malformed.
 pub fn next_at(s: &[u8], at: usize) -> usize
     ensures { result ≡ place_after s.now at }
 {
-    let Record::Whole { kind: _, len } = record_at(s, at) else {
-        return at;
-    };
-    at + 2 + len
+    match record_at(s, at) {
+        Some(r) => at + 2 + r.len,
+        None => at,
+    }
 }
 
-// What rebuilding one tree finds: its digest and the place after it, or no tree.
+// A tree that was rebuilt: its digest, and the place after it.
 #[derive(Clone, Copy)]
 pub struct Step {
-    pub ok: bool,
     pub next: usize,
     pub digest: [u8; 32],
 }
 
-fn bad() -> Step
-    ensures { result ≡ bad_step }
+// The digest of a record with no children, from its kind and its bytes.
+fn single(kind: Kind, bytes: &[u8]) -> [u8; 32]
+    requires { (kind_number kind ≡ 4) → length bytes.now ≡ 32 }
+    ensures { result ≡ single_digest (kind_number kind) bytes.now }
 {
-    Step {
-        ok: false,
-        next: 0,
-        digest: [0u8; 32],
+    match kind {
+        Kind::Leaf => leaf_hash(bytes),
+        Kind::Pruned => bytes.try_into().unwrap(),
+        _ => empty_hash(),
     }
-}
-
-fn good(next: usize, digest: [u8; 32]) -> Step
-    ensures { result ≡ good_step next digest }
-{
-    Step {
-        ok: true,
-        next,
-        digest,
-    }
-}
-
-fn copy32(s: &[u8]) -> [u8; 32]
-    requires { length s.now ≡ 32 }
-    ensures { result ≡ s.now }
-{
-    let mut d = [0u8; 32];
-    let mut i = 0;
-    while i < 32 {
-        d[i] = s[i];
-        i += 1;
-    }
-    d
-}
-
-// A fork of two rebuilt trees: the second one says whether there is one.
-fn join_fork(l: Step, r: Step) -> Step
-    ensures { result ≡ join_fork l r }
-{
-    let ok = r.ok;
-    if !ok {
-        return bad();
-    }
-    let ld = l.digest;
-    let rd = r.digest;
-    good(r.next, fork_hash(&ld, &rd))
-}
-
-// A labeled tree, whose label is the part of s from `start` up to `end`.
-fn join_labeled(s: &[u8], start: usize, end: usize, t: Step) -> Step
-    requires { (start ≤ end) × (end ≤ length s.now) }
-    ensures { result ≡ join_labeled (take (end - start) (drop start s.now)) t }
-{
-    let ok = t.ok;
-    if !ok {
-        return bad();
-    }
-    let td = t.digest;
-    good(t.next, labeled_hash(&s[start..end], &td))
-}
-
-// A record with no children, whose bytes are the part of s from `start` up to `end`.
-fn single(s: &[u8], start: usize, end: usize, kind: usize) -> Step
-    requires { (start ≤ end) × (end ≤ length s.now) × ((kind ≡ 4) → end - start ≡ 32) }
-    ensures { result ≡ single_step kind (take (end - start) (drop start s.now)) end }
-{
-    if kind == EMPTY {
-        return good(end, empty_hash());
-    }
-    if kind == LEAF {
-        return good(end, leaf_hash(&s[start..end]));
-    }
-    if kind == PRUNED {
-        return good(end, copy32(&s[start..end]));
-    }
-    bad()
-}
-
-// A place in the bytes, or none.
-#[derive(Clone, Copy)]
-pub enum Place {
-    At(usize),
-    Nothing,
 }
 
 // The place after the tree at a place, at most `depth` records deep. Nothing is hashed.
-pub fn tree_at(s: &[u8], at: usize, depth: usize) -> Place
+pub fn tree_at(s: &[u8], at: usize, depth: usize) -> Option<usize>
     requires { depth ≤ max_depth }
     ensures { result ≡ place_of at (parse depth (drop at s.now)) }
 {
     if depth == 0 {
-        return Place::Nothing;
+        return None;
     }
-    let Record::Whole { kind, len } = record_at(s, at) else {
-        return Place::Nothing;
-    };
+    let Record { kind, len } = record_at(s, at)?;
     let next = at + 2 + len;
-    if kind == FORK {
-        let Place::At(middle) = tree_at(s, next, depth - 1) else {
-            return Place::Nothing;
-        };
-        return tree_at(s, middle, depth - 1);
+    match kind {
+        Kind::Fork => {
+            let middle = tree_at(s, next, depth - 1)?;
+            tree_at(s, middle, depth - 1)
+        }
+        Kind::Labeled => tree_at(s, next, depth - 1),
+        _ => Some(next),
     }
-    if kind == LABELED {
-        return tree_at(s, next, depth - 1);
-    }
-    Place::At(next)
 }
 
 // Rebuilds the tree that stands at a place, at most `depth` records deep. A fork whose first child is no tree is left
 // at once, so each byte is read a bounded number of times, whatever the bytes are.
-pub fn rebuild_at(s: &[u8], at: usize, depth: usize) -> Step
+pub fn rebuild_at(s: &[u8], at: usize, depth: usize) -> Option<Step>
     requires { depth ≤ max_depth }
     ensures { result ≡ step_of s.now (parse depth (drop at s.now)) }
 {
     if depth == 0 {
-        return bad();
+        return None;
     }
-    let Record::Whole { kind, len } = record_at(s, at) else {
-        return bad();
-    };
+    let Record { kind, len } = record_at(s, at)?;
     let start = at + 2;
     let next = start + len;
-    if kind == FORK {
-        let l = rebuild_at(s, next, depth - 1);
-        let ok = l.ok;
-        if !ok {
-            return bad();
+    match kind {
+        Kind::Fork => {
+            let l = rebuild_at(s, next, depth - 1)?;
+            let r = rebuild_at(s, l.next, depth - 1)?;
+            Some(Step {
+                next: r.next,
+                digest: fork_hash(&l.digest, &r.digest),
+            })
         }
-        let middle = l.next;
-        let r = rebuild_at(s, middle, depth - 1);
-        return join_fork(l, r);
+        Kind::Labeled => {
+            let t = rebuild_at(s, next, depth - 1)?;
+            Some(Step {
+                next: t.next,
+                digest: labeled_hash(&s[start..next], &t.digest),
+            })
+        }
+        _ => Some(Step {
+            next,
+            digest: single(kind, &s[start..next]),
+        }),
     }
-    if kind == LABELED {
-        let t = rebuild_at(s, next, depth - 1);
-        return join_labeled(s, start, next, t);
-    }
-    single(s, start, next, kind)
 }
 
-// The answer of `rebuild`, as document 01 numbers it: 0 and the digest, or 9 and zeros.
-#[derive(Clone, Copy)]
-pub struct Rebuilt {
-    pub number: usize,
-    pub digest: [u8; 32],
-}
-
-fn refuse() -> Rebuilt
-    ensures { result ≡ refused }
+// The digest of exactly one witness, and no byte more.
+pub fn rebuild(witness: &[u8]) -> Result<[u8; 32], Refusal>
+    ensures { digested (outcome result) ≡ rebuilt witness.now }
 {
-    Rebuilt {
-        number: MALFORMED,
-        digest: [0u8; 32],
+    match rebuild_at(witness, 0, MAX_DEPTH) {
+        Some(t) if t.next == witness.len() => Ok(t.digest),
+        _ => Err(Refusal::Malformed),
     }
-}
-
-// Accepts exactly one witness, and no byte more.
-pub fn rebuild(witness: &[u8]) -> Rebuilt
-    ensures { result ≡ rebuilt witness.now }
-{
-    let r = rebuild_at(witness, 0, MAX_DEPTH);
-    let ok = r.ok;
-    if !ok {
-        return refuse();
-    }
-    let next = r.next;
-    if next < witness.len() {
-        return refuse();
-    }
-    let digest = r.digest;
-    Rebuilt { number: 0, digest }
 }

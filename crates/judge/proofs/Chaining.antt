@@ -11,9 +11,6 @@ use Rattle.store.specs.Sound.{Chain}
 use Rattle.judge.specs.Steps.{FreeOk, Inside, HasChain, Along}
 use Rattle.judge.proofs.Deciding.{decides_eqb}
 
-pub along-start : {s : List ℕ} {cap x n : ℕ} → Along s cap x n x n
-along-start = record { back = λ h. h; on = λ h. h }
-
 module _ {s : List ℕ} {cap y k : ℕ} where
   -- at a slot
   pub no_more : (y ≡ 0 → ⊥) → k ≡ 0 → HasChain s cap y k → ⊥

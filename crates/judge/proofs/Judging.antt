@@ -20,7 +20,7 @@ use Rattle.store.proofs.Operating.{tree-lawful}
 use Rattle.store.proofs.Seats.{tree-within, chain-within}
 use Rattle.judge.specs.Rising.{none}
 use Rattle.judge.specs.Steps.{Sized, HeaderOk, Within, Inside, Good, Seen, Fits, HasChain}
-use Rattle.judge.proofs.Deciding.{decides-via}
+use Rattle.runs.proofs.Testing.{decides-via}
 use Rattle.judge.proofs.Order.{rising-sorted, sorted-rising}
 use Rattle.judge.proofs.Unique.{tree-same}
 use Rattle.judge.proofs.Once.{covered}

@@ -2,7 +2,7 @@
 use mathlib.Core.Path.{◌≡◌, refl}
 use mathlib.Core.List.{List, [], ◌∷◌, ◌++◌}
 use Rattle.key_order.specs.Order.{Key, cmp}
-use Rattle.key_order.specs.declared.Ordering.TheVariants.{Less}
+use Rattle.std.specs.declared.cmp.Ordering.TheVariants.{Less}
 use Rattle.key_order.proofs.Laws.{cmp-trans}
 use Rattle.llrb.specs.Tree.{Entry}
 use Rattle.llrb.specs.Sorted.{Above, Sorted}

@@ -2,7 +2,7 @@
 use mathlib.Core.Path.{◌≡◌, refl, sym, ap, subst, ◌∙◌}
 use mathlib.Core.Bool.{Bool, true, false, cond, true≢false}
 use mathlib.Core.List.{List}
-use Prim.Native.Nat.{ℕ, ◌+◌, ◌-◌, ◌≤◌, ◌<◌}
+use Prim.Native.Nat.{ℕ, ◌-◌, ◌≤◌, ◌<◌}
 use native.Mathlib.Omega.{arith}
 use lib.Dec.{eqb}
 use borrow.Author.Tests.{eqb-true, eqb-false, ne_eqb, eq-eqb}
@@ -17,7 +17,7 @@ use Rattle.store.specs.Sound.{Marks}
 use Rattle.slots.proofs.Writing.{node-key, node-value}
 use Rattle.llrb.proofs.Height.{size-node}
 use Rattle.judge.specs.declared.Trail.{Trail}
-use Rattle.judge.specs.declared.Trail.TheVariants.{Got, Bad}
+use Rattle.std.specs.Prelude.{Some, None}
 use Rattle.judge.specs.Rising.{Bound, over, Past, Rising, last_of}
 use Rattle.judge.specs.Steps.{NodeOk, Within, Good, bound_of, Met, Seen, Fits, WalkSays, blacks_from, joined}
 use Rattle.judge.proofs.Order.{rising-join, rising-split, last-join}
@@ -289,23 +289,9 @@ module _ {s : List ℕ} {cap d h p n : ℕ} {k : Bool} (z : Here s cap d h p n k
             lower true i = omega arith
             lower false i = omega (arith, z.depth)
 
-      pub join-says : Past (bound_of s q) (key_of (slot s h)) → (w : Trail) → WalkSays s cap (d - 1) r h m true w → WalkSays s cap d h p n k (joined c b w)
-      join-says a Bad w = right-none w
-      join-says a (Got q' m' b') y = go (eqb b' b) refl
+      pub join-says : Past (bound_of s q) (key_of (slot s h)) → (w : Trail) → WalkSays s cap (d - 1) r h m true (Some w) → WalkSays s cap d h p n k (joined c b w)
+      join-says a w y = go (eqb w.blacks b) refl
         where
-          go : (o : Bool) → eqb b' b ≡ o → WalkSays s cap d h p n k (cond o (Got q' m' (blacks_from c b)) Bad)
-          go true g = seen-node y a (eqb-true b' b g)
-          go false g = blacks-none y (eqb-false b' b g)
-
--- `join`
-pub joined-bad : (c : Bool) (b q m k : ℕ) (w : Trail) → w ≡ Got q m k → (k ≡ b → ⊥) → Bad ≡ joined c b w
-joined-bad c b q m k w e n = sym (ap (joined c b) e ∙ rw (ne_eqb k b n))
-
-pub joined-got : (c : Bool) (b q m k : ℕ) (w : Trail) → w ≡ Got q m k → k ≡ b → Got q m (blacks_from c b) ≡ joined c b w
-joined-got c b q m k w e n = sym (ap (joined c b) e ∙ rw (eq-eqb k b n))
-
-pub joined-red : (c : Bool) (b q m k : ℕ) (w : Trail) → w ≡ Got q m k → k ≡ b → c ≡ true → Got q m b ≡ joined c b w
-joined-red c b q m k w e n h = ap (λ (z : Bool). Got q m (blacks_from z b)) (sym h) ∙ joined-got c b q m k w e n
-
-pub joined-black : (c : Bool) (b q m k : ℕ) (w : Trail) → w ≡ Got q m k → k ≡ b → c ≡ false → Got q m (b + 1) ≡ joined c b w
-joined-black c b q m k w e n h = ap (λ (z : Bool). Got q m (blacks_from z b)) (sym h) ∙ joined-got c b q m k w e n
+          go : (o : Bool) → eqb w.blacks b ≡ o → WalkSays s cap d h p n k (cond o (Some (record w { blacks = blacks_from c b })) None)
+          go true g = seen-node y a (eqb-true w.blacks b g)
+          go false g = blacks-none y (eqb-false w.blacks b g)

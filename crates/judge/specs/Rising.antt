@@ -1,7 +1,7 @@
 -- Keys that rise strictly from one entry to the next, as a walk in order meets them: the bound is the key met before, if there is one.
 use Rattle.std.specs.Prelude.{◌≡◌, List, [], ◌∷◌}
 use Rattle.key_order.specs.Order.{Key, cmp}
-use Rattle.key_order.specs.declared.Ordering.TheVariants.{Less}
+use Rattle.std.specs.declared.cmp.Ordering.TheVariants.{Less}
 use Rattle.llrb.specs.Tree.{Entry}
 
 pub data Bound : Type 0 where

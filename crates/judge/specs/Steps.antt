@@ -1,5 +1,5 @@
 -- What the steps of the judgement tell, between the bytes and `Sound`: one node by itself, a subtree walked in order, the free chain.
-use Rattle.std.specs.Prelude.{◌≡◌, Bool, true, false, cond, List, [], ◌∷◌, ℕ, zero, suc, ◌+◌, ◌≤◌, eqb, length}
+use Rattle.std.specs.Prelude.{◌≡◌, Bool, true, false, cond, List, [], ◌∷◌, ℕ, zero, suc, ◌+◌, ◌≤◌, eqb, length, Some, None, Option}
 use Rattle.slots.specs.declared.Header.{Header}
 use Rattle.slots.specs.Layout.{count_in, store_length, header, slot, count_of, digest_of, key_of, IsEntry, IsFree}
 use Rattle.llrb.specs.Tree.{Tree, nil, node, is_red, entries, size}
@@ -8,7 +8,6 @@ use Rattle.entries.specs.Digests.{compute_subtree_hash, linked_count}
 use Rattle.store.specs.Model.{root, head}
 use Rattle.store.specs.Sound.{Nodes, Marks, Chain}
 use Rattle.judge.specs.declared.Trail.{Trail}
-use Rattle.judge.specs.declared.Trail.TheVariants.{Got, Bad}
 use Rattle.judge.specs.Rising.{Bound, none, over, Rising, last_of}
 
 -- a store of n bytes has this capacity
@@ -74,9 +73,9 @@ pub record Fits (s : List ℕ) (cap depth h p n : ℕ) (black : Bool) (t : Tree)
   pub deep : height t ≤ depth
   pub same_blacks : SameBlacks t
 
-abbrev pub WalkSays : List ℕ → (cap depth h p n : ℕ) → Bool → Trail → Type 0
-WalkSays s cap d h p n k (Got q m b) = (t : Tree) × Seen s cap d h p n k t q m b
-WalkSays s cap d h p n k Bad = (t : Tree) → Fits s cap d h p n k t → ⊥
+abbrev pub WalkSays : List ℕ → (cap depth h p n : ℕ) → Bool → Option Trail → Type 0
+WalkSays s cap d h p n k (Some a) = (t : Tree) × Seen s cap d h p n k t a.last a.left a.blacks
+WalkSays s cap d h p n k None = (t : Tree) → Fits s cap d h p n k t → ⊥
 
 -- black nodes on each path from a node, with b below it
 abbrev pub blacks_from : (red : Bool) → ℕ → ℕ
@@ -84,9 +83,8 @@ blacks_from true b = b
 blacks_from false b = b + 1
 
 -- the last step of a walk: what the right side came to, with b black nodes on each path of the left side
-abbrev pub joined : (red : Bool) → ℕ → Trail → Trail
-joined c b (Got q m k) = cond (eqb k b) (Got q m (blacks_from c b)) Bad
-joined c b Bad = Bad
+abbrev pub joined : (red : Bool) → ℕ → Trail → Option Trail
+joined c b a = cond (eqb a.blacks b) (Some (record a { blacks = blacks_from c b })) None
 
 -- ---- the chain
 

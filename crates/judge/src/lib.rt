@@ -13,7 +13,7 @@ ghost use Rattle.judge.specs.Rising.{Past};
 ghost use Rattle.judge.specs.Steps.{Sized, HeaderOk, NodeOk, bound_of, Met, WalkSays, joined, HasChain};
 
 use entries::{linked_count, subtree_digest};
-use key_order::{below, same};
+use key_order::below;
 use slots::{EDITION, Head, Header};
 
 // A sound store has no longer way down: 2 to the height is at most the square of 1,025.
@@ -21,47 +21,26 @@ pub const MAX_HEIGHT: usize = 20;
 
 // What a walk over a subtree finds: the last slot in order, how many entries are left, and how many black nodes a path has.
 #[derive(Clone, Copy)]
-pub enum Trail {
-    Got {
-        last: usize,
-        left: usize,
-        blacks: usize,
-    },
-    Bad,
+pub struct Trail {
+    last: usize,
+    left: usize,
+    blacks: usize,
 }
 
 fn header_ok(edition: usize, n: usize, h: Header) -> bool
     ensures { Decides result (HeaderOk edition n h) }
 {
-    if h.edition != edition {
+    if h.edition != edition || h.zero != 0 || h.capacity == 0 || 1024 < h.capacity {
         return false;
     }
-    if h.zero != 0 {
-        return false;
-    }
-    if h.capacity == 0 {
-        return false;
-    }
-    if 1024 < h.capacity {
-        return false;
-    }
-    if n != 8 + 150 * h.capacity {
-        return false;
-    }
-    if h.capacity < h.live {
-        return false;
-    }
-    true
+    n == 8 + 150 * h.capacity && h.live <= h.capacity
 }
 
 // A node whose parent wants it black is not red.
 fn colour_ok(red: bool, black: bool) -> bool
     ensures { Decides result (black ≡ true → red ≡ false) }
 {
-    if !black {
-        return true;
-    }
-    !red
+    !black || !red
 }
 
 // Whether the count `n` of slot `i` is what its links count; edition 1 has zero bits there.
@@ -77,142 +56,102 @@ fn count_ok(s: &[u8], i: usize, n: usize) -> bool
     n == linked_count(s, i)
 }
 
-// Whether slot `i`, whose head is `h`, holds a node. What is cheap is tested first.
-fn node_ok(s: &[u8], cap: usize, i: usize, h: Head, black: bool) -> bool
-    requires sized { Sized (length s.now) cap }
-    requires has_slot { HasSlot (length s.now) i }
-    requires h_value { h ≡ head_of (slot s.now i) (count_of s.now i) }
-    ensures { Decides result (NodeOk s.now cap i black) }
-{
-    if !colour_ok(h.red, black) {
-        return false;
-    }
-    if cap < h.left {
-        return false;
-    }
-    if cap < h.right {
-        return false;
-    }
-    if !slot_tests::is_entry(s, i, h) {
-        return false;
-    }
-    if !count_ok(s, i, h.count) {
-        return false;
-    }
-    let d = subtree_digest(s, i);
-    same(slots::digest(s, i), &d)
-}
-
-// The key of slot `i`, which has `n` bytes, is above that of slot `p`, if there is one.
-fn rises(s: &[u8], cap: usize, p: usize, i: usize, n: usize) -> bool
-    requires sized { Sized (length s.now) cap }
-    requires met { Met s.now cap p }
-    requires has_slot { HasSlot (length s.now) i }
-    requires n_value { (n ≡ (slot s.now i).key_length) × (n ≤ 48) }
-    ensures { Decides result (Past (bound_of s.now p) (key_of (slot s.now i))) }
-{
-    if p == 0 {
-        return true;
-    }
-    below(slots::key(s, p), slots::key_part(s, i, n))
-}
-
-fn join(red: bool, b: usize, a: Trail) -> Trail
+// The last step of a walk: `b` black nodes on each path of the left side, and what the right side came to.
+fn join(red: bool, b: usize, a: Trail) -> Option<Trail>
     requires { b ≤ 20 }
     ensures { result ≡ joined red b a }
 {
-    let Trail::Got { last, left, blacks } = a else {
-        return Trail::Bad;
-    };
-    if blacks != b {
-        return Trail::Bad;
+    if a.blacks != b {
+        return None;
     }
-    if red {
-        return Trail::Got {
-            last,
-            left,
-            blacks: b,
-        };
-    }
-    Trail::Got {
-        last,
-        left,
-        blacks: b + 1,
-    }
+    Some(Trail {
+        blacks: if red { b } else { b + 1 },
+        ..a
+    })
 }
 
-// Walks the subtree at slot `i` in order, after slot `prev`, at most `depth` nodes deep and over at most `left` nodes.
-fn walk(
-    s: &[u8],
+// A store's bytes, and the capacity that they have room for.
+#[derive(Clone, Copy)]
+struct Store<'a> {
+    s: &'a [u8],
     cap: usize,
-    depth: usize,
-    i: usize,
-    prev: usize,
-    left: usize,
-    black: bool,
-) -> Trail
-    requires sized { Sized (length s.now) cap }
-    requires depth_bound { depth ≤ 20 }
-    requires met { Met s.now cap prev }
-    ensures { WalkSays s.now cap depth i prev left black result }
-{
-    if i == 0 {
-        return Trail::Got {
-            last: prev,
-            left,
-            blacks: 0,
-        };
-    }
-    if depth == 0 {
-        return Trail::Bad;
-    }
-    if left == 0 {
-        return Trail::Bad;
-    }
-    if cap < i {
-        return Trail::Bad;
-    }
-    let h = slots::head_of(s, i);
-    if !node_ok(s, cap, i, h, black) {
-        return Trail::Bad;
-    }
-    let red = h.red;
-    let Trail::Got {
-        last,
-        left: more,
-        blacks,
-    } = walk(s, cap, depth - 1, h.left, prev, left - 1, red)
-    else {
-        return Trail::Bad;
-    };
-    if !rises(s, cap, last, i, h.key_length) {
-        return Trail::Bad;
-    }
-    let a = walk(s, cap, depth - 1, h.right, i, more, true);
-    join(red, blacks, a)
+    ghost sized: { Sized (length s.now) cap },
 }
 
-// Whether the chain from slot `x` has `n` slots, all free, and ends.
-fn chain_ok(s: &[u8], cap: usize, x: usize, n: usize) -> bool
-    requires { Sized (length s.now) cap }
-    ensures { Decides result (HasChain s.now cap x n) }
-{
-    let mut at = x;
-    let mut more = n;
-    while at != 0 {
-        if more == 0 {
+impl<'a> Store<'a> {
+    // Whether slot `i`, whose head is `h`, holds a node. What is cheap is tested first.
+    fn node_ok(&self, i: usize, h: Head, black: bool) -> bool
+        requires has_slot { HasSlot (length self.now.s.now) i }
+        requires h_value { h ≡ head_of (slot self.now.s.now i) (count_of self.now.s.now i) }
+        ensures { Decides result (NodeOk self.now.s.now self.now.cap i black) }
+    {
+        if !colour_ok(h.red, black)
+            || self.cap < h.left
+            || self.cap < h.right
+            || !slot_tests::is_entry(self.s, i, h)
+            || !count_ok(self.s, i, h.count)
+        {
             return false;
         }
-        if cap < at {
-            return false;
-        }
-        if !slot_tests::is_free(s, at) {
-            return false;
-        }
-        at = slots::left(s, at);
-        more -= 1;
+        slots::digest(self.s, i) == subtree_digest(self.s, i).as_slice()
     }
-    more == 0
+
+    // The key of slot `i`, which has `n` bytes, is above that of slot `p`, if there is one.
+    fn rises(&self, p: usize, i: usize, n: usize) -> bool
+        requires met { Met self.now.s.now self.now.cap p }
+        requires has_slot { HasSlot (length self.now.s.now) i }
+        requires n_value { (n ≡ (slot self.now.s.now i).key_length) × (n ≤ 48) }
+        ensures { Decides result (Past (bound_of self.now.s.now p) (key_of (slot self.now.s.now i))) }
+    {
+        if p == 0 {
+            return true;
+        }
+        below(slots::key(self.s, p), slots::key_part(self.s, i, n))
+    }
+
+    // Walks the subtree at slot `i` in order, after slot `prev`, at most `depth` nodes deep and over at most `left` nodes.
+    fn walk(&self, depth: usize, i: usize, prev: usize, left: usize, black: bool) -> Option<Trail>
+        requires depth_bound { depth ≤ 20 }
+        requires met { Met self.now.s.now self.now.cap prev }
+        ensures { WalkSays self.now.s.now self.now.cap depth i prev left black result }
+    {
+        if i == 0 {
+            return Some(Trail {
+                last: prev,
+                left,
+                blacks: 0,
+            });
+        }
+        if depth == 0 || left == 0 || self.cap < i {
+            return None;
+        }
+        let h = slots::head_of(self.s, i);
+        if !self.node_ok(i, h, black) {
+            return None;
+        }
+        let lower = self.walk(depth - 1, h.left, prev, left - 1, h.red)?;
+        if !self.rises(lower.last, i, h.key_length) {
+            return None;
+        }
+        let upper = self.walk(depth - 1, h.right, i, lower.left, true)?;
+        join(h.red, lower.blacks, upper)
+    }
+
+    // Whether the chain from slot `x` has `n` slots, all free, and ends: the links lead on, and what is left of `n` falls.
+    fn chain_ok(&self, x: usize, n: usize) -> bool
+        ensures { Decides result (HasChain self.now.s.now self.now.cap x n) }
+    {
+        let mut at = x;
+        let mut more = n;
+        while at != 0 {
+            if more == 0 || self.cap < at || !slot_tests::is_free(self.s, at) {
+                return false;
+            }
+            at = slots::left(self.s, at);
+            more -= 1;
+        }
+        more == 0
+    }
 }
 
 // Whether the bytes are a sound store of an edition.
@@ -226,14 +165,11 @@ pub fn judge_in(s: &[u8], edition: usize) -> bool
     if !header_ok(edition, s.len(), h) {
         return false;
     }
-    let Trail::Got { last, left, blacks } = walk(s, h.capacity, MAX_HEIGHT, h.root, 0, h.live, true)
-    else {
+    let store = Store { s, cap: h.capacity };
+    let Some(trail) = store.walk(MAX_HEIGHT, h.root, 0, h.live, true) else {
         return false;
     };
-    if left != 0 {
-        return false;
-    }
-    chain_ok(s, h.capacity, h.free, h.capacity - h.live)
+    trail.left == 0 && store.chain_ok(h.free, h.capacity - h.live)
 }
 
 // Whether the bytes are a sound store.

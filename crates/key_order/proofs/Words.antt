@@ -1,24 +1,22 @@
 -- Bytes compared many at a time, as one number.
-use Rattle.std.proofs.Common.{◌≡◌, ℕ, zero, suc, ◌+◌, ◌-◌, ◌*◌, ◌/◌, ◌^◌, ◌<◌, ◌≤◌, ◌⊎◌, List, length, get_or, sym, refl, ap, ◌∙◌, subst, inl, inr, add-zero, add_assoc, add-suc, div-lt_iff_lt-mul, eq-zero-or-pos, pow-suc, le-div_iff_mul-le, add-one, arith, pow_pos, pow_mono, pow-add}
+use Rattle.std.proofs.Common.{◌≡◌, ℕ, nat_cmp, zero, suc, ◌+◌, ◌-◌, ◌*◌, ◌/◌, ◌^◌, ◌<◌, ◌≤◌, ◌⊎◌, List, length, get_or, sym, refl, ap, ◌∙◌, subst, inl, inr, add-zero, add-suc, div-lt_iff_lt-mul, eq-zero-or-pos, pow-suc, le-div_iff_mul-le, add-one, arith, pow_pos, pow_mono, pow-add}
 use native.Mathlib.Decide.{dec_lt}
 use lib.Bits.{bit_xor, xor_add_and, and_le_l, and_le_r, xor_self, xor_shr, xor_lt}
 use lib.Count.{count_leading_zeros, leading_top}
-use Rattle.key_order.specs.declared.Ordering.TheVariants.{Less, Greater}
+use Rattle.std.specs.declared.cmp.Ordering.TheVariants.{Less, Greater}
 use Rattle.key_order.specs.Order.{cmp, common}
 use Rattle.key_order.specs.Words.{word}
-use Rattle.key_order.proofs.Comparing.{Upto, at_less, at_more, at_same, parts_at}
+use Rattle.key_order.proofs.Comparing.{Upto, ranked, at_less, at_more, at_same, parts_at}
 
--- ---- four and eight bytes, spelled out
+-- ---- eight bytes, spelled out
 
-pub word-four : (s : List ℕ) (i : ℕ) → word s i 4 ≡ get_or s i 0 * 0x100_0000 + get_or s (i + 1) 0 * 0x1_0000 + get_or s (i + 2) 0 * 0x100 + get_or s (i + 3) 0
+pub word-eight : (s : List ℕ) (i : ℕ)
+    → word s i 8
+    ≡ get_or s i 0 * 0x100_0000_0000_0000 + get_or s (i + 1) 0 * 0x1_0000_0000_0000 + get_or s (i + 2) 0 * 0x100_0000_0000
+    + get_or s (i + 3) 0 * 0x1_0000_0000 + get_or s (i + 4) 0 * 0x100_0000 + get_or s (i + 5) 0 * 0x1_0000 + get_or s (i + 6) 0 * 0x100
+    + get_or s (i + 7) 0
 unfolding word
-word-four s i = let e : get_or s (i + 0) 0 ≡ get_or s i 0 = ap (λ (j : ℕ). get_or s j 0) (add-zero i) in omega (arith, e)
-
-pub word-eight : (s : List ℕ) (i : ℕ) → word s i 8 ≡ word s i 4 * 0x1_0000_0000 + word s (i + 4) 4
-unfolding word
-word-eight s i =
-    let at : (k : ℕ) → get_or s ((i + 4) + k) 0 ≡ get_or s (i + (4 + k)) 0 = λ k. ap (λ (j : ℕ). get_or s j 0) (add_assoc i 4 k) in
-    omega (arith, at 0, at 1, at 2, at 3)
+word-eight s i = let e : get_or s (i + 0) 0 ≡ get_or s i 0 = ap (λ (j : ℕ). get_or s j 0) (add-zero i) in omega (arith, e)
 
 -- ---- two unlike numbers part in the byte where their difference has its first one
 
@@ -146,3 +144,9 @@ unlike a b fa fb i p q r u la lb ea eb h =
     let bt : (k : ℕ) → q / k ≡ word b i 8 / k = λ k. ap (λ (x : ℕ). x / k) eb in
     let t = parting a b fa fb i r l (sym (at (256 ^ (8 - r))) ∙ (h.1 ∙ bt (256 ^ (8 - r)))) (λ e. h.2 (at (256 ^ (7 - r)) ∙ (e ∙ sym (bt (256 ^ (7 - r)))))) in
     parts_at ((says a b fa fb i u r (omega arith) (omega arith)).same t.0) (omega arith) (omega arith) t.1
+
+pub unlike-order : (a b : List ℕ) (fa : (k : ℕ) → get_or a k 0 < 256) (fb : (k : ℕ) → get_or b k 0 < 256) (i p q : ℕ) → Upto a b i
+    → i + 8 ≤ length a → i + 8 ≤ length b → p ≡ word a i 8 → q ≡ word b i 8 → (p ≡ q → ⊥) → nat_cmp p q ≡ cmp a b
+unlike-order a b fa fb i p q u la lb ea eb ne =
+    let s = says a b fa fb i u 8 la lb in
+    ranked p q (dec_lt p q) (dec_lt q p) (λ l. s.less (omega (arith, ea, eb, l))) (λ e. absurd (ne e)) (λ g. s.more (omega (arith, ea, eb, g)))

@@ -1,8 +1,8 @@
 -- The order of keys (document 01): byte by byte as unsigned numbers, a proper prefix smaller; where two keys part; the prefix test.
 use Rattle.std.specs.Prelude.{ℕ, suc, Bool, true, false, cond, ◌&&◌, List, [], ◌∷◌, ◌==◌, nat_lt}
 use Rattle.key_order.specs.declared.Compared.{Compared}
-use Rattle.key_order.specs.declared.Ordering.{Ordering}
-use Rattle.key_order.specs.declared.Ordering.TheVariants.{Less, Equal, Greater}
+use Rattle.std.specs.declared.cmp.Ordering.{Ordering}
+use Rattle.std.specs.declared.cmp.Ordering.TheVariants.{Less, Equal, Greater}
 
 abbrev pub Key : Type 0
 Key = List ℕ

@@ -5,37 +5,13 @@ ghost use Rattle.std.specs.Prelude.{◌≡◌, ◌+◌, ◌-◌, ◌/◌, ◌^�
 ghost use Rattle.key_order.specs.Order.{cmp, compared, is_same, is_below};
 ghost use Rattle.key_order.specs.Words.{word};
 
-// How one key stands to another: the Rust's `std::cmp::Ordering`.
-#[derive(Clone, Copy)]
-pub enum Ordering {
-    Less,
-    Equal,
-    Greater,
-}
+use std::cmp::Ordering;
 
 // How two keys compare, and how many of their leading bytes agree.
-#[derive(Clone, Copy)]
+#[derive(Clone, Copy, Debug, PartialEq, Eq)]
 pub struct Compared {
     pub order: Ordering,
     pub agree: usize,
-}
-
-fn wide(b: u8) -> u32
-    ensures { (result ≡ b) × (result < 256) }
-{
-    b as u32
-}
-
-// Four bytes as one number, the first one highest.
-fn four(s: &[u8], i: usize) -> u32
-    requires { i + 4 ≤ length s.now }
-    ensures { result ≡ word s.now i 4 }
-{
-    let w = wide(s[i]);
-    let x = wide(s[i + 1]);
-    let y = wide(s[i + 2]);
-    let z = wide(s[i + 3]);
-    w * 0x100_0000 + x * 0x1_0000 + y * 0x100 + z
 }
 
 // Eight bytes as one number, the first one highest.
@@ -43,14 +19,16 @@ fn eight(s: &[u8], i: usize) -> u64
     requires { i + 8 ≤ length s.now }
     ensures { result ≡ word s.now i 8 }
 {
-    four(s, i) as u64 * 0x1_0000_0000 + four(s, i + 4) as u64
-}
-
-// The length of the shorter one.
-fn shorter(a: &[u8], b: &[u8]) -> usize
-    ensures { (result ≤ length a.now) × (result ≤ length b.now) }
-{
-    if a.len() < b.len() { a.len() } else { b.len() }
+    u64::from_be_bytes([
+        s[i],
+        s[i + 1],
+        s[i + 2],
+        s[i + 3],
+        s[i + 4],
+        s[i + 5],
+        s[i + 6],
+        s[i + 7],
+    ])
 }
 
 // In which byte two unlike numbers of eight bytes part, the first one highest.
@@ -65,89 +43,50 @@ fn place(p: u64, q: u64) -> usize
 pub fn compare(a: &[u8], b: &[u8]) -> Compared
     ensures { result ≡ compared a.now b.now }
 {
-    let n = shorter(a, b);
-    let mut i = 0;
-    while 8 <= n - i {
-        let p = eight(a, i);
-        let q = eight(b, i);
+    let n = a.len().min(b.len());
+    for k in 0..n / 8 {
+        let p = eight(a, 8 * k);
+        let q = eight(b, 8 * k);
         if p != q {
-            let at = i + place(p, q);
-            if p < q {
-                return Compared {
-                    order: Ordering::Less,
-                    agree: at,
-                };
-            }
             return Compared {
-                order: Ordering::Greater,
-                agree: at,
+                order: p.cmp(&q),
+                agree: 8 * k + place(p, q),
             };
         }
-        i += 8;
     }
-    loop {
-        if i == a.len() {
-            if i == b.len() {
-                break Compared {
-                    order: Ordering::Equal,
-                    agree: i,
-                };
-            }
-            break Compared {
-                order: Ordering::Less,
+    for i in n / 8 * 8..n {
+        if a[i] != b[i] {
+            return Compared {
+                order: a[i].cmp(&b[i]),
                 agree: i,
             };
         }
-        if i == b.len() {
-            break Compared {
-                order: Ordering::Greater,
-                agree: i,
-            };
-        }
-        let x = a[i];
-        let y = b[i];
-        if x < y {
-            break Compared {
-                order: Ordering::Less,
-                agree: i,
-            };
-        }
-        if y < x {
-            break Compared {
-                order: Ordering::Greater,
-                agree: i,
-            };
-        }
-        i += 1;
+    }
+    Compared {
+        order: a.len().cmp(&b.len()),
+        agree: n,
     }
 }
+
+// ---- what callers ask of it, each by its name in docs/ARCHITECTURE: `order(a, b).is_eq()` at each caller would say less
 
 // The order alone.
 pub fn order(a: &[u8], b: &[u8]) -> Ordering
     ensures { result ≡ cmp a.now b.now }
 {
-    let c = compare(a, b);
-    c.order
+    compare(a, b).order
 }
 
 // Whether the two are the same string.
 pub fn same(a: &[u8], b: &[u8]) -> bool
     ensures { result ≡ is_same a.now b.now }
 {
-    match order(a, b) {
-        Ordering::Less => false,
-        Ordering::Equal => true,
-        Ordering::Greater => false,
-    }
+    order(a, b).is_eq()
 }
 
 // Whether the first comes before the second.
 pub fn below(a: &[u8], b: &[u8]) -> bool
     ensures { result ≡ is_below a.now b.now }
 {
-    match order(a, b) {
-        Ordering::Less => true,
-        Ordering::Equal => false,
-        Ordering::Greater => false,
-    }
+    order(a, b).is_lt()
 }

@@ -2,7 +2,7 @@
 -- about trees, shapes or digests.
 use Rattle.std.specs.Prelude.{◌≡◌, Bool, cond, ◌⊎◌, List, [], ◌∷◌}
 use Rattle.std.proofs.Math.Option.{Option, none, some}
-use Rattle.key_order.specs.declared.Ordering.TheVariants.{Less}
+use Rattle.std.specs.declared.cmp.Ordering.TheVariants.{Less}
 use Rattle.key_order.specs.Order.{Key, cmp, pick, is_same}
 use Rattle.llrb.specs.Tree.{Value}
 use Rattle.llrb.specs.Map.{PairOf, Pair, find}

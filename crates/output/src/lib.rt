@@ -2,36 +2,25 @@
 #![tactic(auto)]
 
 ghost use Rattle.std.specs.Prelude.{◌≡◌, ◌+◌, ◌≤◌, ◌<◌, length};
+ghost use Rattle.hash_tree.specs.Record.{kind_number};
 ghost use Rattle.hash_tree.specs.Written.{head, piece};
 ghost use Rattle.output.specs.Putting.{Puts, room_after};
 
-// The room that is left for writing.
-#[derive(Clone, Copy)]
-pub enum Room {
-    Left(usize),
-    Short,
-}
+use hash_tree::Kind;
 
-// `n` bytes out of a room.
-pub fn less(room: Room, n: usize) -> Room
+// What is left of a room for writing, none being one too small, after `n` bytes.
+pub fn less(room: Option<usize>, n: usize) -> Option<usize>
     ensures { result ≡ room_after n room }
 {
-    let Room::Left(m) = room else {
-        return Room::Short;
-    };
-    if n <= m {
-        Room::Left(m - n)
-    } else {
-        Room::Short
-    }
+    room?.checked_sub(n)
 }
 
 // The 16 bits that open a record.
-pub fn put_head(out: &mut [u8], at: usize, kind: usize, len: usize) -> usize
-    requires { (kind < 5) × (len ≤ 64) × (at + 2 ≤ length out.old) }
-    ensures { Puts out.old out.new at result (head kind len) }
+pub fn put_head(out: &mut [u8], at: usize, kind: Kind, len: usize) -> usize
+    requires { (len ≤ 64) × (at + 2 ≤ length out.old) }
+    ensures { Puts out.old out.new at result (head (kind_number kind) len) }
 {
-    out[at] = (kind * 32 + len / 256) as u8;
+    out[at] = (kind.number() * 32 + len / 256) as u8;
     out[at + 1] = (len % 256) as u8;
     at + 2
 }
@@ -40,18 +29,15 @@ pub fn put_bytes(out: &mut [u8], at: usize, src: &[u8]) -> usize
     requires { at + length src.now ≤ length out.old }
     ensures { Puts out.old out.new at result src.now }
 {
-    let mut i = 0;
-    while i < src.len() {
-        out[at + i] = src[i];
-        i += 1;
-    }
-    at + i
+    let end = at + src.len();
+    out[at..end].copy_from_slice(src);
+    end
 }
 
 // A record without its children.
-pub fn put_piece(out: &mut [u8], at: usize, kind: usize, src: &[u8]) -> usize
-    requires { (kind < 5) × (length src.now ≤ 64) × (at + length (piece kind src.now) ≤ length out.old) }
-    ensures { Puts out.old out.new at result (piece kind src.now) }
+pub fn put_piece(out: &mut [u8], at: usize, kind: Kind, src: &[u8]) -> usize
+    requires { (length src.now ≤ 64) × (at + length (piece (kind_number kind) src.now) ≤ length out.old) }
+    ensures { Puts out.old out.new at result (piece (kind_number kind) src.now) }
 {
     let x = put_head(out, at, kind, src.len());
     put_bytes(out, x, src)

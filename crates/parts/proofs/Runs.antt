@@ -4,13 +4,15 @@ use mathlib.Core.List.{List, [], ◌∷◌}
 use Prim.Native.Nat.{ℕ, suc, ◌+◌, ◌-◌, ◌*◌, ◌/◌, ◌%◌, ◌≤◌, ◌<◌}
 use native.Mathlib.Omega.{arith}
 use lib.ListN.{length, get_or, set, take, drop, length-set, length-drop}
-use lib.Seq.{sets, set-get_or, set-set, set_comm, get_or-set_same, get_or-set_other, take_all, take-add, length-take-le}
+use lib.Seq.{sets, set-get_or, set-set, set_comm, get_or-set_same, get_or-set_other, take_all, length-take-le}
 use Rattle.parts.specs.declared.Verdict.{Verdict}
 use Rattle.parts.specs.declared.Verdict.TheVariants.{More}
-use Rattle.parts.specs.Layout.{max_levels, count_of, held_of, verdict_of, joined, stepped, run, joins}
+use Rattle.std.proofs.lemmas.List.{take-append-drop}
+use Rattle.parts.specs.declared.Progress.{Progress}
+use Rattle.parts.specs.Layout.{Running, count_of, held_of, verdict_of, joined, stepped, run, joins}
 use Rattle.parts.proofs.Bounds.{most-64}
 use Rattle.parts.proofs.Verdicts.{more-body}
-use Rattle.parts.proofs.Doing.{Fits, more-shown, step-go, run-next}
+use Rattle.parts.proofs.Doing.{Fits, more-shown, step-go}
 use Rattle.parts.proofs.Parts.{run-append}
 
 module _ (n a b : ℕ) where
@@ -36,12 +38,12 @@ module _ (s : List ℕ) where
   joins-small k (z, c, t, v) = let q = more-short (count_of s) (get_or s 4 0) (get_or s 5 0) (held_of s + k) (omega arith) v in omega (arith, q.0, q.1)
 
   -- the most that joins, by what the code reads
-  pub joins-most : (n h a b : ℕ) (v : Verdict) → get_or s 0 0 ≡ 0 → n ≡ count_of s → h ≡ held_of s → a ≡ get_or s 4 0 → b ≡ get_or s 5 0 → n ≤ max_levels → 2 ≤ h
-      → v ≡ verdict_of n (h + 1) a b → v ≡ More → (h ≤ b + 1) × joins s (b + 1 - h)
-  joins-most n h a b v z en eh ea eb c two e m =
-      let q = more-short n a b (h + 1) (omega arith) (sym e ∙ m) in
-      let k : h + (b + 1 - h) ≡ b + 1 = omega (arith, q.0) in
-      (omega (arith, q.0), (z, (rw en at c), (rw eh at two), rw (← en, ← eh, ← ea, ← eb, k) (more-later n a b (h + 1) (b + 1) (omega arith) (sym e ∙ m) (omega (arith, q.0)) (omega arith))))
+  pub joins-most : (p : Progress) (a b : ℕ) (v : Verdict) → Running s p → a ≡ get_or s 4 0 → b ≡ get_or s 5 0 → 2 ≤ p.held
+      → v ≡ verdict_of p.levels (p.held + 1) a b → v ≡ More → (p.held ≤ b + 1) × joins s (b + 1 - p.held)
+  joins-most p a b v r ea eb two e m =
+      let q = more-short p.levels a b (p.held + 1) (omega arith) (sym e ∙ m) in
+      let k : p.held + (b + 1 - p.held) ≡ b + 1 = omega (arith, q.0) in
+      (omega (arith, q.0), (r.status, (rw r.levels at r.few), (rw r.held at two), rw (← r.levels, ← r.held, ← ea, ← eb, k) (more-later p.levels a b (p.held + 1) (b + 1) (omega arith) (sym e ∙ m) (omega (arith, q.0)) (omega arith))))
 
   module _ (x : ℕ) where
     -- what joins the record moves nothing before it but the count of bytes held
@@ -56,7 +58,7 @@ module _ (s : List ℕ) where
     joins-step (z, c, t, v) =
         let q = more-short (count_of s) (get_or s 4 0) (get_or s 5 0) (held_of s + 1) (omega arith) v in
         sym
-        (step-go s x (count_of s) (held_of s) z refl refl c (omega (arith, q.0, q.1)) (get_or s 4 0) (get_or s 5 0) More More
+        (step-go s x (record { levels = count_of s; held = held_of s }) (record { status = z; levels = refl; held = refl; few = c; short = omega (arith, q.0, q.1) }) (get_or s 4 0) (get_or s 5 0) More More
         (sym (before t 4 (omega arith) (λ e. omega arith))) (sym (before t 5 (omega arith) (λ e. omega arith))) (sym v) refl)
 
     joins-next : (k : ℕ) → 3 < length s → joins s (suc k) → joins (joined s x) k
@@ -97,12 +99,9 @@ run-joined s t x n k h l j p q eh e =
     let m : length (take k x) ≡ k = length-take-le k x q in
     sym (joined-run s (take k x) l (rw m (joins-less s n k p j)) ∙ rw (m, ← eh, e))
 
--- a part, taken from a place on
-module _ (s t u x : List ℕ) (i : ℕ) (e : t ≡ run s (take i x)) where
-  pub run_on : (k : ℕ) → u ≡ run t (take k (take (length x - i) (drop i x))) → u ≡ run s (take (i + k) x)
-  run_on k q =
-      let a : take (length x - i) (drop i x) ≡ drop i x = take_all (length x - i) (drop i x) (omega (arith, length-drop i x)) in
-      q ∙ rw (a, e) (sym (run-append s (take i x) (take k (drop i x)))) ∙ ap (run s) (sym (take-add i k x))
-
-  pub run-one : i < length x → u ≡ stepped t (get_or x i 0) → u ≡ run s (take (i + 1) x)
-  run-one h q = q ∙ rw e (sym (run-next s x i h))
+-- what is left of a part, after the bytes that join and one more
+pub run-turn : (s t u x after : List ℕ) (k b : ℕ) → t ≡ run s (take k x) → take (length x - k) (drop k x) ≡ b ∷ after → u ≡ stepped t b
+    → run s x ≡ run u after
+run-turn s t u x after k b e h q =
+    let d : drop k x ≡ b ∷ after = sym (take_all (length x - k) (drop k x) (omega (arith, length-drop k x))) ∙ h in
+    sym (ap (run s) (take-append-drop k x)) ∙ run-append s (take k x) (drop k x) ∙ rw (← e, d, q)

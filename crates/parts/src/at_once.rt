@@ -1,50 +1,38 @@
 // Bytes that do no more than join the record under way, taken at once.
 ghost use Rattle.std.specs.Prelude.{◌≡◌, ◌≤◌, ◌<◌, length, take};
-ghost use Rattle.parts.specs.Layout.{state_length, run, joins};
+ghost use Rattle.parts.specs.Layout.{run, joins};
 
-use crate::{LEVELS, Verdict, judge, put, wide};
+use crate::{Progress, STATE, Verdict, judge, under_way};
+use hash_tree::wide;
+use output::put_bytes;
 
 // How many bytes to come do no more than join the record: all that it lacks but the last, once its head is there.
-fn joining(s: &[u8]) -> usize
-    requires { length s.now ≡ state_length }
+fn joining(s: &[u8; STATE]) -> usize
     ensures { (0 < result) → joins s.now result }
 {
-    if s[0] != 0 {
+    let Some(Progress { levels, held }) = under_way(s) else {
         return 0;
-    }
-    let h = wide(s[3]);
-    if h < 2 {
-        return 0;
-    }
-    let n = wide(s[1]) * 256 + wide(s[2]);
-    if LEVELS < n {
+    };
+    if held < 2 {
         return 0;
     }
     let len = wide(s[5]);
-    let Verdict::More = judge(n, h + 1, wide(s[4]), len) else {
+    let Verdict::More = judge(levels, held + 1, wide(s[4]), len) else {
         return 0;
     };
-    len + 1 - h
-}
-
-fn lesser(a: usize, b: usize) -> usize
-    ensures { (result ≤ a) × (result ≤ b) }
-{
-    if a < b { a } else { b }
+    len + 1 - held
 }
 
 // Takes those of x that do no more than join the record, at once, and says how many.
-pub fn take_run(s: &mut [u8], x: &[u8]) -> usize
-    requires { length s.old ≡ state_length }
+pub fn take_run(s: &mut [u8; STATE], x: &[u8]) -> usize
     ensures { (result ≤ length x.now) × (s.new ≡ run s.old (take result x.now)) }
 {
-    let n = joining(s);
+    let n = joining(s).min(x.len());
     if n == 0 {
         return 0;
     }
-    let k = lesser(n, x.len());
-    let h = wide(s[3]);
-    put(s, 4 + h, &x[..k]);
-    s[3] = (h + k) as u8;
-    k
+    let held = wide(s[3]);
+    put_bytes(s, 4 + held, &x[..n]);
+    s[3] = (held + n) as u8;
+    n
 }

@@ -30,12 +30,7 @@ fn balance_1(s: &mut [u8], h: usize) -> usize
     requires { CanAt balance₁_p s.old h }
     ensures { DoesAt Marked balance₁_p s.old s.new h result }
 {
-    let r = slots::right(s, h);
-    if rb_nodes::is_red(s, r) {
-        let l = slots::left(s, h);
-        if rb_nodes::is_red(s, l) {
-            return h;
-        }
+    if rb_nodes::is_red(s, slots::right(s, h)) && !rb_nodes::is_red(s, slots::left(s, h)) {
         return rotate_left(s, h);
     }
     h
@@ -47,12 +42,8 @@ fn balance_2(s: &mut [u8], h: usize) -> usize
     ensures { DoesAt Marked balance₂_p s.old s.new h result }
 {
     let l = slots::left(s, h);
-    if rb_nodes::is_red(s, l) {
-        let m = slots::left(s, l);
-        if rb_nodes::is_red(s, m) {
-            return rotate_right(s, h);
-        }
-        return h;
+    if rb_nodes::is_red(s, l) && rb_nodes::is_red(s, slots::left(s, l)) {
+        return rotate_right(s, h);
     }
     h
 }
@@ -62,18 +53,13 @@ fn balance_3(s: &mut [u8], h: usize) -> usize
     requires { CanAt balance₃_p s.old h }
     ensures { DoesAt Marked balance₃_p s.old s.new h result }
 {
-    let l = slots::left(s, h);
-    if rb_nodes::is_red(s, l) {
-        let r = slots::right(s, h);
-        if rb_nodes::is_red(s, r) {
-            flip_colors(s, h);
-            return h;
-        }
-        return h;
+    if rb_nodes::is_red(s, slots::left(s, h)) && rb_nodes::is_red(s, slots::right(s, h)) {
+        flip_colors(s, h);
     }
     h
 }
 
+// The Rust has the two rotations one by one, and they stand beside it so.
 // Turns the tree at slot `h` to the right: its left child comes to the top, and is handed back.
 pub fn rotate_right(s: &mut [u8], h: usize) -> usize
     requires { Can rotate_right_p s.old h }

@@ -14,7 +14,7 @@ pub struct Cut {
     pub freed: usize,
 }
 
-// The slot of the least key.
+// The slot of the least key: down the left links, as the Rust goes.
 fn min(s: &[u8], h: usize) -> usize
     requires { HasFull s.now h }
     ensures { (t : Tree) (d : Entry) → Held s.now h t → Full t → result ≡ (least d t).slot }
@@ -65,8 +65,7 @@ fn delete_go(s: &mut [u8], h: usize, key: &[u8]) -> Cut
     requires { CanDelete key.now s.old h }
     ensures { DoesDelete key.now s.old s.new h result.top result.freed }
 {
-    let o = rb_nodes::compare_key(s, h, key);
-    if let key_order::Ordering::Less = o {
+    if rb_nodes::compare_key(s, h, key).is_lt() {
         let g = rb_moves::ready_left(s, h);
         let l = slots::left(s, g);
         let c = delete_go(s, l, key);
@@ -85,8 +84,7 @@ fn delete_go(s: &mut [u8], h: usize, key: &[u8]) -> Cut
         return Cut { top: 0, freed: v };
     }
     let x = rb_moves::ready_right(s, v);
-    let w = rb_nodes::compare_key(s, x, key);
-    if let key_order::Ordering::Equal = w {
+    if rb_nodes::compare_key(s, x, key).is_eq() {
         return pull_next(s, x);
     }
     let q = slots::right(s, x);
@@ -105,15 +103,9 @@ fn ready(s: &mut [u8], h: usize)
     requires { HasFull s.old h }
     ensures { (t : Tree) → Held s.old h t → Full t → Turn Marked Marked s.old s.new h t (ready t) }
 {
-    let l = slots::left(s, h);
-    if rb_nodes::is_red(s, l) {
-        return;
+    if !rb_nodes::is_red(s, slots::left(s, h)) && !rb_nodes::is_red(s, slots::right(s, h)) {
+        slots::set_red(s, h, true);
     }
-    let r = slots::right(s, h);
-    if rb_nodes::is_red(s, r) {
-        return;
-    }
-    slots::set_red(s, h, true);
 }
 
 // Makes the root black, where there is one.

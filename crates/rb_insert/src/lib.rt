@@ -3,6 +3,8 @@
 
 ghost use Rattle.rb_insert.specs.Inserts.{CanInsert, DoesInsert, DoesPut, CanModify, DoesModify};
 
+use std::cmp::Ordering;
+
 // `go` of the Rust's modify: digests on the path are marked stale, no other.
 pub fn modify_go(s: &mut [u8], h: usize, key: &[u8], value: &[u8])
     requires { CanModify value.now s.old h }
@@ -11,18 +13,17 @@ pub fn modify_go(s: &mut [u8], h: usize, key: &[u8], value: &[u8])
     if h == 0 {
         return;
     }
-    let o = rb_nodes::compare_key(s, h, key);
-    match o {
-        key_order::Ordering::Equal => {
+    match rb_nodes::compare_key(s, h, key) {
+        Ordering::Equal => {
             slots::set_value(s, h, value);
             rb_nodes::mark_stale(s, h);
         }
-        key_order::Ordering::Less => {
+        Ordering::Less => {
             let l = slots::left(s, h);
             modify_go(s, l, key, value);
             rb_nodes::mark_stale(s, h); // on the way back up
         }
-        key_order::Ordering::Greater => {
+        Ordering::Greater => {
             let r = slots::right(s, h);
             modify_go(s, r, key, value);
             rb_nodes::mark_stale(s, h);
@@ -40,19 +41,18 @@ fn insert_go(s: &mut [u8], h: usize, x: usize, key: &[u8], value: &[u8]) -> usiz
         rb_nodes::mark_stale(s, x);
         return x;
     }
-    let o = rb_nodes::compare_key(s, h, key);
-    match o {
-        key_order::Ordering::Equal => {
+    match rb_nodes::compare_key(s, h, key) {
+        Ordering::Equal => {
             slots::set_value(s, h, value);
             rb_balance::update_and_balance(s, h)
         }
-        key_order::Ordering::Less => {
+        Ordering::Less => {
             let l = slots::left(s, h);
             let p = insert_go(s, l, x, key, value);
             slots::set_left(s, h, p);
             rb_balance::update_and_balance(s, h)
         }
-        key_order::Ordering::Greater => {
+        Ordering::Greater => {
             let r = slots::right(s, h);
             let p = insert_go(s, r, x, key, value);
             slots::set_right(s, h, p);

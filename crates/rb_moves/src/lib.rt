@@ -1,4 +1,4 @@
-// What the Rust's delete does to the tree on its way down, over the slots of a store.
+// What the Rust's delete does to the tree on its way down, over the slots of a store: left and right one by one, as there.
 #![tactic(auto)]
 
 ghost use Rattle.llrb.specs.Panic.{move_red_left₂_p, move_red_right₂_p, ready_left_p, ready_right_p, lean_right_p};
@@ -59,14 +59,10 @@ pub fn ready_left(s: &mut [u8], h: usize) -> usize
     ensures { Does Marked ready_left_p s.old s.new h result }
 {
     let l = slots::left(s, h);
-    if rb_nodes::is_red(s, l) {
-        return h;
+    if !rb_nodes::is_red(s, l) && !rb_nodes::is_red(s, slots::left(s, l)) {
+        return move_red_left(s, h);
     }
-    let m = slots::left(s, l);
-    if rb_nodes::is_red(s, m) {
-        return h;
-    }
-    move_red_left(s, h)
+    h
 }
 
 // `if !rb_nodes::is_red(h.right) && !rb_nodes::is_red(h.right.left) { h = move_red_right(h) }`
@@ -75,14 +71,10 @@ pub fn ready_right(s: &mut [u8], h: usize) -> usize
     ensures { Does Marked ready_right_p s.old s.new h result }
 {
     let r = slots::right(s, h);
-    if rb_nodes::is_red(s, r) {
-        return h;
+    if !rb_nodes::is_red(s, r) && !rb_nodes::is_red(s, slots::left(s, r)) {
+        return move_red_right(s, h);
     }
-    let m = slots::left(s, r);
-    if rb_nodes::is_red(s, m) {
-        return h;
-    }
-    move_red_right(s, h)
+    h
 }
 
 // `if rb_nodes::is_red(h.left) { h = rb_balance::rotate_right(h) }`

@@ -1,17 +1,14 @@
 -- A key compared with the one at the top: what the answer says of the tree.
 use mathlib.Core.Path.{◌≡◌, refl, sym, ap, ◌∙◌}
-use mathlib.Core.Logic.{inl, inr}
-use mathlib.Core.List.{List, [], ◌∷◌}
+use mathlib.Core.Bool.{Bool, true, false}
+use mathlib.Core.List.{List}
 use mathlib.Core.Option.{Option, none, some}
 use Prim.Native.Nat.{ℕ}
-use native.Mathlib.Omega.{arith}
-use types.Run.{OneOf}
-use denote.Enum.Declared.{tag_of}
-use Rattle.key_order.specs.contracts.Ordering.{the_type}
-use Rattle.key_order.specs.declared.Ordering.{Ordering}
-use Rattle.key_order.specs.declared.Ordering.TheVariants.{Less, Equal, Greater}
+use Rattle.std.specs.Ordering.{is_lt, is_eq}
+use Rattle.std.specs.declared.cmp.Ordering.{Ordering}
+use Rattle.std.specs.declared.cmp.Ordering.TheVariants.{Less, Equal, Greater}
 use Rattle.key_order.specs.Order.{Key, cmp}
-use Rattle.key_order.proofs.Laws.{cmp-refl, cmp-eq}
+use Rattle.runs.proofs.Testing.{clash}
 use Rattle.slots.specs.Layout.{slot, key_of}
 use Rattle.llrb.specs.Tree.{Value, Entry, Tree, nil, node, left, right, get}
 use Rattle.rb_nodes.specs.Heap.{Held, Full}
@@ -26,26 +23,22 @@ pub answer : {s : List ℕ} {h : ℕ} {o : Ordering} (k : Key) (t : Tree) → He
 answer k nil a f w = absurd f
 answer k (node c e l r) a f w = sym (w ∙ ap (cmp k) (top_key_lem a))
 
--- an `if let` that was not taken
-pub not-less : (o : Ordering) → OneOf (1 ∷ 2 ∷ []) (tag_of the_type o) → o ≡ Less → ⊥
-not-less Less (inl e) q = omega arith
-not-less Less (inr e) q = omega arith
-not-less Equal w q = let z : ◌≡◌ {A = ℕ} 0 1 = cc in omega arith
-not-less Greater w q = let z : ◌≡◌ {A = ℕ} 0 1 = cc in omega arith
+-- a test of the answer: it holds, or not
+pub is-less : {b : Bool} (o : Ordering) → b ≡ is_lt o → b ≡ true → o ≡ Less
+is-less Less e w = refl
+is-less Equal e w = absurd (clash w e)
+is-less Greater e w = absurd (clash w e)
 
-pub not_equal : (o : Ordering) → OneOf (0 ∷ 2 ∷ []) (tag_of the_type o) → o ≡ Equal → ⊥
-not_equal Equal (inl e) q = omega arith
-not_equal Equal (inr e) q = omega arith
-not_equal Less w q = let z : ◌≡◌ {A = ℕ} 0 1 = cc in omega arith
-not_equal Greater w q = let z : ◌≡◌ {A = ℕ} 0 1 = cc in omega arith
+pub not-less : {b : Bool} (o : Ordering) → b ≡ is_lt o → b ≡ false → o ≡ Less → ⊥
+not-less o e w q = clash (e ∙ ap is_lt q) w
 
--- bytes that were compared: the same, or not
-module _ {o : Ordering} {d x y : List ℕ} (ed : d ≡ x) (eo : o ≡ cmp d y) where
-  pub same-yes : o ≡ Equal → x ≡ y
-  same-yes e = sym ed ∙ cmp-eq d y (sym eo ∙ e)
+pub is-equal : {b : Bool} (o : Ordering) → b ≡ is_eq o → b ≡ true → o ≡ Equal
+is-equal Less e w = absurd (clash w e)
+is-equal Equal e w = refl
+is-equal Greater e w = absurd (clash w e)
 
-  pub same-no : (o ≡ Equal → ⊥) → x ≡ y → ⊥
-  same-no ne e = ne (eo ∙ ap (λ (z : List ℕ). cmp z y) (ed ∙ e) ∙ cmp-refl y)
+pub not_equal : {b : Bool} (o : Ordering) → b ≡ is_eq o → b ≡ false → o ≡ Equal → ⊥
+not_equal o e w q = clash (e ∙ ap is_eq q) w
 
 -- ---- get goes the same way
 

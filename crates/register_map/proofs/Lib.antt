@@ -3,3 +3,4 @@ pub mod Refusing
 pub mod Changing
 pub mod Witnessing
 pub mod Differing
+pub mod Refusals

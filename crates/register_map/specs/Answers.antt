@@ -1,15 +1,16 @@
--- The number of each answer of rb_tree.
-use Rattle.std.specs.Prelude.{ℕ}
-use Rattle.store.specs.Numbers.{Full, Absent, number_of}
-use Rattle.rb_tree.specs.declared.Inserted.{Inserted}
-use Rattle.rb_tree.specs.declared.Inserted.TheVariants as insert
-use Rattle.rb_tree.specs.declared.Changed.{Changed}
-use Rattle.rb_tree.specs.declared.Changed.TheVariants as change
+-- What the calls test first, and where get and iteration say that an entry lies.
+use Rattle.std.specs.Prelude.{◌≡◌, Ok, Err, Result, ⊤}
+use Rattle.answers.specs.declared.Refusal.{Refusal}
+use Rattle.answers.specs.Numbers.{number_of}
+use Rattle.answers.specs.Answers.{Found, no_entry}
+use Rattle.search.specs.declared.Place.{Place}
 
-abbrev pub inserted_number : Inserted → ℕ
-inserted_number insert.Done = 0
-inserted_number insert.Full = number_of Full
+-- a test: passed where P holds, and else this refusal
+abbrev pub Checked : (P : Type 0) (r : Refusal) → Result ⊤ Refusal → Type 0
+Checked P r (Ok x) = P
+Checked P r (Err e) = (e ≡ r) × (P → ⊥)
 
-abbrev pub changed_number : Changed → ℕ
-changed_number change.Done = 0
-changed_number change.Absent = number_of Absent
+-- get and iteration: the place as an answer
+abbrev pub placed : Result Place Refusal → Found
+placed (Ok p) = record { number = 0; key_at = p.key_at; key_length = p.key_length; value_at = p.value_at; value_length = p.value_length }
+placed (Err r) = no_entry (number_of r)

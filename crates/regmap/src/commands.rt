@@ -6,35 +6,37 @@ use regmap_check::exchange::exchange_file;
 use regmap_check::{inspect, merge_files};
 use regmap_diff::diff;
 use regmap_log::show;
-use regmap_words::kinds;
-use regmap_words::kinds::kind_of;
-use regmap_words::says::{DONE, TROUBLE};
-use text::print::say;
+use regmap_words::kinds::{Command, kind_of};
+use regmap_words::line::Line;
+use regmap_words::says::Failure;
 
-fn no_run(err: i32) -> usize {
-    say(
-        err,
-        b"regmap: run is no line of a file that is run: put its lines here.\n",
-    );
-    TROUBLE
+fn no_run(line: Line) -> Failure {
+    line.say(b"regmap: run is no line of a file that is run: put its lines here.\n");
+    Failure::Trouble
 }
 
-// Does one command, and answers its status. Complaints go to `err`.
-pub(crate) fn command(rt: &HostRuntime, line: &[u8], err: i32) -> usize {
-    let kind = kind_of(line, err);
-    match kind {
-        0..=2 => stores::ask(rt, kind, line, err),
-        3..=5 => stores::change(rt, kind, line, err),
-        6..=9 => witnesses::cut(rt, kind, line, err),
-        kinds::MERGE => merge_files(rt, line, err),
-        kinds::CBOR | kinds::UNCBOR => exchange_file(rt, kind, line, err),
-        kinds::DIFF => diff(rt, line, err),
-        kinds::BUILD => build(rt, line, err),
-        kinds::REPLAY => replay(rt, line, err),
-        kinds::LOG => show(rt, line, err),
-        kinds::RUN => no_run(err),
-        kinds::NONE => TROUBLE,
-        kinds::SAID => DONE,
-        _ => inspect(rt, kind, line, err),
+// Does one command. Complaints go to `line.err`.
+pub(crate) fn command(rt: &HostRuntime, line: Line) -> Result<(), Failure> {
+    let Some(command) = kind_of(line)? else {
+        return Ok(());
+    };
+    match command {
+        Command::List => stores::with_store(rt, line, stores::list),
+        Command::Get => stores::with_store(rt, line, stores::get),
+        Command::Root => stores::with_store(rt, line, stores::root),
+        Command::Set | Command::Add | Command::Unset => stores::change(rt, command, line),
+        Command::Witness | Command::Prefix | Command::Full | Command::Range => {
+            witnesses::cut(rt, command, line)
+        }
+        Command::Check | Command::Read | Command::Dot | Command::Html | Command::Ask => {
+            inspect(rt, command, line)
+        }
+        Command::Merge => merge_files(rt, line),
+        Command::Cbor | Command::Uncbor => exchange_file(rt, command, line),
+        Command::Diff => diff(rt, line),
+        Command::Build => build(rt, line),
+        Command::Replay => replay(rt, line),
+        Command::Log => show(rt, line),
+        Command::Run => Err(no_run(line)),
     }
 }

@@ -11,17 +11,11 @@ mod witnesses;
 
 ghost use Rattle.std.specs.Prelude.{◌≤◌, length};
 
-use regmap_words::says::{DONE, OUT, REFUSED, TROUBLE};
+use regmap_words::says::{Failure, OUT, status};
 use std::env::{Env, FillError};
 use std::process::ExitCode;
-use text::print::{UNREAD, is_unread, say};
+use text::print::{UNREAD, is_unread, say, say_number};
 use text::words::{is, part, rest, word};
-
-fn put(line: &mut [u8], at: usize, b: u8) {
-    if at < line.len() {
-        line[at] = b;
-    }
-}
 
 // The empty word, written as the empty name is.
 fn empty_word(line: &mut [u8], at: usize) -> usize
@@ -31,11 +25,7 @@ fn empty_word(line: &mut [u8], at: usize) -> usize
     if line.len() - at < 6 {
         return line.len();
     }
-    put(line, at, b'h');
-    put(line, at + 1, b'e');
-    put(line, at + 2, b'x');
-    put(line, at + 3, b':');
-    put(line, at + 4, 0);
+    line[at..at + 5].copy_from_slice(b"hex:\0");
     at + 5
 }
 
@@ -60,30 +50,21 @@ fn argument(rt: &HostRuntime, line: &mut [u8], at: usize, i: usize) -> usize
 
 fn is_there(rt: &HostRuntime, i: usize) -> bool {
     let mut none = [0u8; 0];
-    match rt.arg(i, &mut none) {
-        Err(FillError::NotPresent) => false,
-        _ => true,
-    }
+    !matches!(rt.arg(i, &mut none), Err(FillError::NotPresent))
 }
 
 // How many arguments there are, the program's own name among them.
 fn arg_count(rt: &HostRuntime) -> usize {
-    for i in 0..usize::MAX {
-        if !is_there(rt, i) {
-            return i;
-        }
-    }
-    usize::MAX
+    (0..usize::MAX)
+        .find(|i| !is_there(rt, *i))
+        .unwrap_or(usize::MAX)
 }
 
 // The arguments as a line of words; answers its length, which is all of the line if they do not fit.
 fn arguments(rt: &HostRuntime, line: &mut [u8]) -> usize {
-    let count = arg_count(rt);
     let mut at = 0;
-    let mut i = 1;
-    while i < count {
+    for i in 1..arg_count(rt) {
         at = argument(rt, line, at, i);
-        i += 1;
     }
     at
 }
@@ -94,11 +75,15 @@ fn is_watched(line: &[u8]) -> bool {
     is(word(line, 0), b"--status")
 }
 
-fn say_end(status: usize) {
-    match status {
-        DONE => say(OUT, b"ok\n"),
-        REFUSED => say(OUT, b"refused\n"),
-        _ => say(OUT, b"failed\n"),
+fn say_status(done: Result<(), Failure>) {
+    say_number(3, usize::from(status(done)));
+}
+
+fn say_end(done: Result<(), Failure>) {
+    match done {
+        Ok(()) => say(OUT, b"ok\n"),
+        Err(Failure::Refused) => say(OUT, b"refused\n"),
+        Err(Failure::Trouble | Failure::Unread) => say(OUT, b"failed\n"),
     }
 }
 
@@ -110,25 +95,34 @@ fn ended() -> ExitCode {
     ExitCode::SUCCESS
 }
 
+fn too_long() -> Failure {
+    say(2, b"regmap: the words are too long: 16 KiB are read.\n");
+    Failure::Trouble
+}
+
+// Does what the words ask, and says how it ended.
+fn run(rt: &HostRuntime, words: &[u8]) {
+    let watched = is_watched(words);
+    let done = script::done(rt, if watched { rest(words, 1) } else { words });
+    if is_unread() {
+        return;
+    }
+    if watched {
+        say_status(done);
+    } else {
+        say_end(done);
+    }
+}
+
 fn main(rt: HostRuntime) -> ExitCode {
     let mut line = [0u8; 16_384];
     let n = arguments(&rt, &mut line);
     if n == 16_384 {
-        say(2, b"regmap: the words are too long: 16 KiB are read.\n");
-        text::print::say_number(3, TROUBLE);
-        say_end(TROUBLE);
+        let failure = too_long();
+        say_status(Err(failure));
+        say_end(Err(failure));
         return ended();
     }
-    if is_watched(part(&line, 0, n)) {
-        let status = script::done(&rt, rest(part(&line, 0, n), 1));
-        if !is_unread() {
-            text::print::say_number(3, status);
-        }
-        return ended();
-    }
-    let status = script::done(&rt, part(&line, 0, n));
-    if !is_unread() {
-        say_end(status);
-    }
+    run(&rt, part(&line, 0, n));
     ended()
 }

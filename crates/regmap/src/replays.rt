@@ -1,59 +1,52 @@
 // A build log run on a store: all of it, or nothing is written.
-use crate::stores::{ROOM, refuse_on, say_store};
-use regmap_files::{Loaded, finish, load, lock, release};
+use crate::stores::{held, refuse_on, say_store};
+use answers::Refusal;
+use regmap_files::room::{FILE, STORE, zeros};
+use regmap_files::{load, lock, release};
 use regmap_log::{refuse_log, say_replayed};
-use regmap_words::says::{DONE, OUT, TROUBLE};
+use regmap_words::line::Line;
+use regmap_words::says::{Failure, OUT};
 use std::fs::File;
-use text::words::{part, within, word};
 
 // The store stays as it was.
-fn refused(line: &[u8], store: &[u8], log: &[u8], number: usize, err: i32) -> usize {
-    if number == answers::BAD_LOG {
-        return refuse_log(err, word(line, 2), log);
+fn refused(line: Line, store: &[u8], log: &[u8], refusal: Refusal) -> Failure {
+    match refusal {
+        Refusal::BadLog => refuse_log(line.err, line.word(2), log),
+        _ => refuse_on(line, store, line.word(1), refusal),
     }
-    refuse_on(err, line, store, word(line, 1), number)
 }
 
-fn ran(rt: &HostRuntime, line: &[u8], file: File, store: &mut [u8], log: &[u8], err: i32) -> usize {
-    let r = register_map::replay(store, log);
-    if r.number != 0 {
-        release(rt, file, word(line, 1));
-        return refused(line, store, log, r.number, err);
-    }
-    if !finish(rt, file, word(line, 1), store, err) {
-        return TROUBLE;
-    }
-    say_replayed(log, r.full, r.absent);
-    say_store(OUT, store);
-    DONE
-}
-
-// The store is held; store and log are read.
-fn held(
+// The store is held, and the log is read.
+fn ran(
     rt: &HostRuntime,
-    line: &[u8],
+    line: Line,
     file: File,
-    store: &mut [u8],
-    log: &mut [u8],
-    err: i32,
-) -> usize {
-    let Loaded::Whole(n) = load(rt, word(line, 2), log, err) else {
-        release(rt, file, word(line, 1));
-        return TROUBLE;
-    };
-    let Loaded::Whole(m) = load(rt, word(line, 1), store, err) else {
-        release(rt, file, word(line, 1));
-        return TROUBLE;
-    };
-    let e = within(m, store);
-    ran(rt, line, file, &mut store[..e], part(log, 0, n), err)
+    buf: &mut [u8],
+    log: &[u8],
+) -> Result<(), Failure> {
+    held(
+        rt,
+        line,
+        file,
+        buf,
+        |store| register_map::replay(store, log),
+        |store, refusal| refused(line, store, log, refusal),
+        |store, replayed| {
+            say_replayed(log, replayed.full, replayed.absent);
+            say_store(OUT, store);
+        },
+    )
 }
 
-pub(crate) fn replay(rt: &HostRuntime, line: &[u8], err: i32) -> usize {
-    let Some(file) = lock(rt, word(line, 1), err) else {
-        return TROUBLE;
-    };
-    let mut store = [0u8; ROOM];
-    let mut log = [0u8; 524_288];
-    held(rt, line, file, &mut store, &mut log, err)
+pub(crate) fn replay(rt: &HostRuntime, line: Line) -> Result<(), Failure> {
+    let file = lock(rt, line.word(1), line.err)?;
+    let mut store = zeros::<STORE>();
+    let mut buf = zeros::<FILE>();
+    match load(rt, line.word(2), &mut buf, line.err) {
+        Ok(log) => ran(rt, line, file, &mut store, log),
+        Err(failure) => {
+            release(rt, file, line.word(1));
+            Err(failure)
+        }
+    }
 }

@@ -1,9 +1,11 @@
 // Commands from the arguments, or from a file with a command a line.
 use crate::commands::command;
-use regmap_files::{Loaded, load, lost};
-use regmap_words::says::{DONE, OUT, TROUBLE};
-use text::print::{UNREAD, is_unread, say, say_number};
-use text::words::{blanked, find, has, is, part, rest, within, word};
+use regmap_files::room::zeros;
+use regmap_files::{load, lost};
+use regmap_words::line::Line;
+use regmap_words::says::{Failure, OUT, status};
+use text::print::{is_unread, say, say_number};
+use text::words::{blanked, has, is, part, rest, word};
 
 const ERR: i32 = 2;
 
@@ -13,85 +15,80 @@ fn may_fail(line: &[u8]) -> bool {
 }
 
 fn is_empty(line: &[u8]) -> bool {
-    if has(line, 0) {
-        return true;
-    }
-    is(part(word(line, 0), 0, 1), b"#")
+    has(line, 0) || is(part(word(line, 0), 0, 1), b"#")
 }
 
-fn say_status(status: usize) {
+fn say_status(done: Result<(), Failure>) {
     say(OUT, b"status ");
-    say_number(OUT, status);
+    say_number(OUT, usize::from(status(done)));
     say(OUT, b"\n");
 }
 
-// Does a line's command, and answers the status with which the run stops.
-fn step(rt: &HostRuntime, line: &[u8]) -> usize {
-    if may_fail(line) {
-        say_status(command(rt, rest(line, 1), OUT));
-        return DONE;
+// Does a line's command; a failure stops the run.
+fn step(rt: &HostRuntime, words: &[u8]) -> Result<(), Failure> {
+    if may_fail(words) {
+        say_status(command(
+            rt,
+            Line {
+                words: rest(words, 1),
+                err: OUT,
+            },
+        ));
+        return Ok(());
     }
-    command(rt, line, OUT)
+    command(rt, Line { words, err: OUT })
 }
 
-// The status, or trouble if something that was printed is lost. A reader that stopped ends the program.
-pub(crate) fn seen(status: usize) -> usize {
+// What came of it, or trouble if something that was printed is lost. A reader that stopped ends the program.
+pub(crate) fn seen(done: Result<(), Failure>) -> Result<(), Failure> {
     if is_unread() {
-        return UNREAD as usize;
+        return Err(Failure::Unread);
     }
     if lost(ERR) {
-        return TROUBLE;
+        return Err(Failure::Trouble);
     }
-    status
+    done
 }
 
 // The line as it stands; `> ` before it, if it is a command.
 fn say_line(line: &[u8]) {
-    if !(line.len() == 0 || is(part(line, 0, 1), b"#")) {
+    if !line.is_empty() && !is(part(line, 0, 1), b"#") {
         say(OUT, b"> ");
     }
     say(OUT, line);
     say(OUT, b"\n");
 }
 
-fn turn(rt: &HostRuntime, line: &mut [u8]) -> usize {
+fn turn(rt: &HostRuntime, line: &mut [u8]) -> Result<(), Failure> {
     say_line(line);
     if is_unread() {
-        return UNREAD as usize;
+        return Err(Failure::Unread);
     }
     blanked(line);
     if is_empty(line) {
-        return DONE;
+        return Ok(());
     }
     seen(step(rt, line))
 }
 
-fn turns(rt: &HostRuntime, script: &mut [u8]) -> usize {
-    let mut at = 0;
-    while at < script.len() {
-        let end = find(script, at, b'\n');
-        let status = turn(rt, &mut script[at..end]);
-        if status != DONE {
-            return status;
-        }
-        at = end + 1;
+fn turns(rt: &HostRuntime, script: &mut [u8]) -> Result<(), Failure> {
+    for line in script.split_inclusive_mut(|b| *b == b'\n') {
+        let end = line.len() - usize::from(line.ends_with(b"\n"));
+        turn(rt, &mut line[..end])?;
     }
-    DONE
+    Ok(())
 }
 
-fn run(rt: &HostRuntime, path: &[u8], script: &mut [u8]) -> usize {
-    let Loaded::Whole(n) = load(rt, path, script, ERR) else {
-        return TROUBLE;
-    };
-    let e = within(n, script);
-    turns(rt, &mut script[..e])
+fn run(rt: &HostRuntime, path: &[u8]) -> Result<(), Failure> {
+    let mut buf = zeros::<65_536>();
+    let script = load(rt, path, &mut buf, ERR)?;
+    turns(rt, script)
 }
 
-// Does what the arguments ask, and answers the status.
-pub(crate) fn done(rt: &HostRuntime, line: &[u8]) -> usize {
-    if is(word(line, 0), b"run") && has(line, 2) {
-        let mut script = [0u8; 65_536];
-        return run(rt, word(line, 1), &mut script);
+// Does what the arguments ask.
+pub(crate) fn done(rt: &HostRuntime, words: &[u8]) -> Result<(), Failure> {
+    if is(word(words, 0), b"run") && has(words, 2) {
+        return run(rt, word(words, 1));
     }
-    seen(command(rt, line, ERR))
+    seen(command(rt, Line { words, err: ERR }))
 }

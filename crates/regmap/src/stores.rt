@@ -1,30 +1,29 @@
 // Commands that read or change one store.
 ghost use Rattle.store.specs.Sound.{Sound};
 
+use answers::Refusal;
 use judge::judge;
-use regmap_check::no_store;
-use regmap_files::{Loaded, finish, load, lock, release};
+use regmap_check::{name_in, no_store};
+use regmap_files::room::{STORE, zeros};
+use regmap_files::{finish, load, lock, release};
 use regmap_show::json;
-use regmap_words::kinds;
-use regmap_words::kinds::is_json;
-use regmap_words::says::{DONE, OUT, REFUSED, TROUBLE, refuse, say_registers};
-use search::Place;
+use regmap_words::kinds::Command;
+use regmap_words::line::Line;
+use regmap_words::says::{Failure, OUT, refuse, say_registers};
 use std::fs::File;
 use text::hex;
-use text::print::{say, say_name, say_number, say_with_hex, say3};
-use text::words::{part, piece, within, word};
-
-// The longest store, and one byte more.
-pub(crate) const ROOM: usize = 153_609;
+use text::hex::Few;
+use text::print::{say, say_name, say_number, say_with_hex};
+use text::words::piece;
 
 // ---- refusals
 
-// Refused by the number: 1 is of the store, any other of the word.
-pub(crate) fn refuse_on(err: i32, line: &[u8], store: &[u8], what: &[u8], number: usize) -> usize {
-    if number == 1 {
-        return no_store(word(line, 1), store, err);
+// A store that is not sound is refused for what it is, any other refusal is of the word.
+pub(crate) fn refuse_on(line: Line, store: &[u8], what: &[u8], refusal: Refusal) -> Failure {
+    match refusal {
+        Refusal::NotSound => no_store(line.word(1), store, line.err),
+        _ => refuse(line.err, what, refusal),
     }
-    refuse(err, what, number)
 }
 
 // ---- list, get, root
@@ -37,35 +36,22 @@ fn say_entry(json: bool, first: bool, key: &[u8], value: &[u8]) {
     say_with_hex(OUT, b" ", value, b"\n");
 }
 
-// Prints the entry at the place, and answers the place of the next one.
-fn entry(store: &[u8], place: Place, json: bool, first: bool) -> Place
-    requires { Sound store.now }
-{
-    let Place::At {
-        key_at,
-        key_length,
-        value_at,
-        value_length,
-    } = place
-    else {
-        return Place::Nothing;
-    };
-    let key = piece(store, key_at, key_length);
-    say_entry(json, first, key, piece(store, value_at, value_length));
-    if 48 < key.len() {
-        return Place::Nothing;
-    }
-    search::next_place(store, key)
-}
-
+// A store has at most 1024 registers.
 fn entries(store: &[u8], json: bool)
     requires { Sound store.now }
 {
-    let mut place = search::first_place(store);
-    let mut left: usize = 1024;
-    while left > 0 {
-        place = entry(store, place, json, left == 1024);
-        left -= 1;
+    let mut next = search::first_place(store);
+    for i in 0..1024 {
+        let Some(place) = next else {
+            return;
+        };
+        let key = piece(store, place.key_at, place.key_length);
+        let value = piece(store, place.value_at, place.value_length);
+        say_entry(json, i == 0, key, value);
+        if 48 < key.len() {
+            return;
+        }
+        next = search::next_place(store, key);
     }
 }
 
@@ -75,201 +61,192 @@ fn say_count(n: usize) {
     say(OUT, b"\n");
 }
 
-fn list_text(store: &[u8], n: usize)
+fn list_text(store: &[u8])
     requires { Sound store.now }
 {
+    let n = whole_store::count(store);
     say_count(n);
     entries(store, false);
     say_count(n);
 }
 
-fn list_json(store: &[u8], n: usize)
+fn list_json(store: &[u8])
     requires { Sound store.now }
 {
-    let r = register_map::root_hash(store);
-    let digest = r.digest;
+    let digest = whole_store::root_hash(store);
     say_with_hex(OUT, b"{\"root\": \"", &digest, b"\", \"count\": ");
-    say_number(OUT, n);
+    say_number(OUT, whole_store::count(store));
     say(OUT, b", \"registers\": [");
     entries(store, true);
     say(OUT, b"\n]}\n");
 }
 
-fn listed(line: &[u8], store: &[u8]) -> usize
-    requires { Sound store.now }
-{
-    let r = register_map::count(store);
-    if is_json(line) {
-        list_json(store, r.count);
-        return DONE;
-    }
-    list_text(store, r.count);
-    DONE
-}
-
-fn no_list(line: &[u8], store: &[u8], err: i32) -> usize {
-    no_store(word(line, 1), store, err)
-}
-
-fn list(line: &[u8], store: &[u8], err: i32) -> usize {
+pub(crate) fn list(line: Line, store: &[u8]) -> Result<(), Failure> {
     if !judge(store) {
-        return no_list(line, store, err);
+        return Err(no_store(line.word(1), store, line.err));
     }
-    listed(line, store)
+    if line.is_json() {
+        list_json(store);
+    } else {
+        list_text(store);
+    }
+    Ok(())
 }
 
-fn get(line: &[u8], store: &[u8], err: i32) -> usize {
-    let name = hex::name(word(line, 2));
-    let key = name.bytes;
-    let r = register_map::get(store, part(&key, 0, name.len));
-    if r.number != 0 {
-        return refuse_on(err, line, store, word(line, 2), r.number);
-    }
-    say_with_hex(OUT, b"", piece(store, r.value_at, r.value_length), b"\n");
-    DONE
+pub(crate) fn get(line: Line, store: &[u8]) -> Result<(), Failure> {
+    let name = line.word(2);
+    let place = register_map::get(store, name_in(name).as_slice()).map_err(|refusal| refuse_on(
+        line, store, name, refusal,
+    ))?;
+    say_with_hex(
+        OUT,
+        b"",
+        piece(store, place.value_at, place.value_length),
+        b"\n",
+    );
+    Ok(())
 }
 
-fn root(line: &[u8], store: &[u8], err: i32) -> usize {
-    let r = register_map::root_hash(store);
-    if r.number != 0 {
-        return no_store(word(line, 1), store, err);
-    }
-    let digest = r.digest;
+pub(crate) fn root(line: Line, store: &[u8]) -> Result<(), Failure> {
+    let digest = register_map::root_hash(store).map_err(|_| no_store(
+        line.word(1),
+        store,
+        line.err,
+    ))?;
     say_with_hex(OUT, b"", &digest, b"\n");
-    DONE
+    Ok(())
 }
 
-pub(crate) fn ask(rt: &HostRuntime, kind: usize, line: &[u8], err: i32) -> usize {
-    let mut store = [0u8; ROOM];
-    let Loaded::Whole(n) = load(rt, word(line, 1), &mut store, err) else {
-        return TROUBLE;
+// Reads the store that the line names, and does with it what the command asks.
+pub(crate) fn with_store<F>(rt: &HostRuntime, line: Line, ask: F) -> Result<(), Failure>
+where
+    F: FnOnce(Line, &[u8]) -> Result<(), Failure>,
+    requires { F.IsAlwaysCallable ask }
+{
+    let mut buf = zeros::<STORE>();
+    let store = load(rt, line.word(1), &mut buf, line.err)?;
+    ask(line, store)
+}
+
+// ---- a store that is changed
+
+// How many registers a store holds, and its root digest.
+pub(crate) fn say_store(to: i32, store: &[u8]) {
+    say_registers(to, register_map::count(store).unwrap_or(0));
+    let digest = register_map::root_hash(store).unwrap_or([0; 32]);
+    say_with_hex(to, b", root ", &digest, b"\n");
+}
+
+// A store that is held: read, changed by `step`, and written, which `tell` says; or given up as it was, and `why` says why.
+pub(crate) fn held<T: Drop, E: Drop, S, W, G>(
+    rt: &HostRuntime,
+    line: Line,
+    file: File,
+    buf: &mut [u8],
+    step: S,
+    why: W,
+    tell: G,
+) -> Result<(), Failure>
+where
+    S: FnOnce(&mut [u8]) -> Result<T, E>,
+    W: FnOnce(&[u8], E) -> Failure,
+    G: FnOnce(&[u8], T),
+    requires step { S.IsAlwaysCallable step }
+    requires why { W.IsAlwaysCallable why }
+    requires tell { G.IsAlwaysCallable tell }
+{
+    let path = line.word(1);
+    let store = match load(rt, path, buf, line.err) {
+        Ok(store) => store,
+        Err(failure) => {
+            release(rt, file, path);
+            return Err(failure);
+        }
     };
-    let bytes = part(&store, 0, n);
-    match kind {
-        kinds::LIST => list(line, bytes, err),
-        kinds::GET => get(line, bytes, err),
-        _ => root(line, bytes, err),
+    match step(store) {
+        Err(e) => {
+            release(rt, file, path);
+            Err(why(store, e))
+        }
+        Ok(done) => {
+            finish(rt, file, path, store, line.err)?;
+            tell(store, done);
+            Ok(())
+        }
     }
 }
 
 // ---- set, add, unset
 
-// How many registers a store holds, and its root digest.
-pub(crate) fn say_store(to: i32, store: &[u8]) {
-    let c = register_map::count(store);
-    say_registers(to, c.count);
-    let r = register_map::root_hash(store);
-    let digest = r.digest;
-    say_with_hex(to, b", root ", &digest, b"\n");
-}
-
+// Why a store stays as it was.
 #[derive(Clone, Copy)]
-enum Outcome {
-    Done,
-    Refused(usize),
+enum Unchanged {
+    Refused(Refusal),
     There,
 }
 
-fn change_of(number: usize) -> Outcome {
-    if number == 0 {
-        return Outcome::Done;
+impl From<Refusal> for Unchanged {
+    fn from(refusal: Refusal) -> Unchanged {
+        Unchanged::Refused(refusal)
     }
-    Outcome::Refused(number)
 }
 
 // A new register: none of that name may be there.
-fn added(store: &mut [u8], key: &[u8], value: &[u8]) -> Outcome {
-    let r = register_map::get(store, key);
-    if r.number == 0 {
-        return Outcome::There;
+fn add(store: &mut [u8], key: &[u8], value: &[u8]) -> Result<(), Unchanged> {
+    if register_map::get(store, key).is_ok() {
+        return Err(Unchanged::There);
     }
-    change_of(register_map::insert(store, key, value))
+    register_map::insert(store, key, value)?;
+    Ok(())
 }
 
-fn altered(kind: usize, line: &[u8], store: &mut [u8]) -> Outcome {
-    let name = hex::name(word(line, 2));
-    let value = hex::value(word(line, 3));
-    let k = name.bytes;
-    let v = value.bytes;
-    let key = part(&k, 0, name.len);
-    let bytes = part(&v, 0, value.len);
-    match kind {
-        kinds::SET => change_of(register_map::modify(store, key, bytes)),
-        kinds::ADD => added(store, key, bytes),
-        _ => change_of(register_map::delete(store, key)),
+// The value that a word gives; the words of a line were looked at before.
+fn value_in(word: &[u8]) -> Few {
+    hex::value(word).unwrap_or(hex::none())
+}
+
+fn altered(command: Command, line: Line, store: &mut [u8]) -> Result<(), Unchanged> {
+    let name = name_in(line.word(2));
+    let value = value_in(line.word(3));
+    let key = name.as_slice();
+    match command {
+        Command::Set => register_map::modify(store, key, value.as_slice())?,
+        Command::Add => add(store, key, value.as_slice())?,
+        _ => register_map::delete(store, key)?,
+    }
+    Ok(())
+}
+
+fn say_unchanged(command: Command, line: Line, store: &[u8], why: Unchanged) -> Failure {
+    match why {
+        Unchanged::There => {
+            line.say3(
+                b"regmap: ",
+                line.word(2),
+                b" is there already: add makes a new register; set changes one.\n",
+            );
+            Failure::Refused
+        }
+        Unchanged::Refused(refusal) => {
+            let failure = refuse_on(line, store, line.word(2), refusal);
+            if matches!((refusal, command), (Refusal::Absent, Command::Set)) {
+                line.say(b"regmap: set changes a register; add makes a new one.\n");
+            }
+            failure
+        }
     }
 }
 
-fn say_absent(kind: usize, line: &[u8], err: i32) -> usize {
-    refuse(err, word(line, 2), 7);
-    if kind == kinds::SET {
-        say(
-            err,
-            b"regmap: set changes a register; add makes a new one.\n",
-        );
-    }
-    REFUSED
-}
-
-// The store stays as it was.
-fn unchanged(kind: usize, line: &[u8], store: &[u8], change: Outcome, err: i32) -> usize {
-    let Outcome::Refused(number) = change else {
-        say3(
-            err,
-            b"regmap: ",
-            word(line, 2),
-            b" is there already: add makes a new register; set changes one.\n",
-        );
-        return REFUSED;
-    };
-    if number == 7 {
-        return say_absent(kind, line, err);
-    }
-    refuse_on(err, line, store, word(line, 2), number)
-}
-
-// The bytes of a store that is held: changed, and written or given up.
-fn changed(
-    rt: &HostRuntime,
-    kind: usize,
-    line: &[u8],
-    file: File,
-    store: &mut [u8],
-    err: i32,
-) -> usize {
-    let change = altered(kind, line, store);
-    let Outcome::Done = change else {
-        release(rt, file, word(line, 1));
-        return unchanged(kind, line, store, change, err);
-    };
-    if !finish(rt, file, word(line, 1), store, err) {
-        return TROUBLE;
-    }
-    say_store(OUT, store);
-    DONE
-}
-
-// The store is held; it is read and changed.
-fn held(
-    rt: &HostRuntime,
-    kind: usize,
-    line: &[u8],
-    file: File,
-    store: &mut [u8],
-    err: i32,
-) -> usize {
-    let Loaded::Whole(n) = load(rt, word(line, 1), store, err) else {
-        release(rt, file, word(line, 1));
-        return TROUBLE;
-    };
-    let e = within(n, store);
-    changed(rt, kind, line, file, &mut store[..e], err)
-}
-
-pub(crate) fn change(rt: &HostRuntime, kind: usize, line: &[u8], err: i32) -> usize {
-    let Some(file) = lock(rt, word(line, 1), err) else {
-        return TROUBLE;
-    };
-    let mut store = [0u8; ROOM];
-    held(rt, kind, line, file, &mut store, err)
+pub(crate) fn change(rt: &HostRuntime, command: Command, line: Line) -> Result<(), Failure> {
+    let file = lock(rt, line.word(1), line.err)?;
+    let mut buf = zeros::<STORE>();
+    held(
+        rt,
+        line,
+        file,
+        &mut buf,
+        |store| altered(command, line, store),
+        |store, why| say_unchanged(command, line, store, why),
+        |store, _| say_store(OUT, store),
+    )
 }

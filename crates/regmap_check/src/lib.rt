@@ -5,25 +5,28 @@ pub mod exchange;
 mod stream;
 
 use crate::stream::check_stream;
+use answers::Refusal;
 use hash_tree::rebuild;
 use merge::merge;
 use regmap_ask::{Told, ask};
-use regmap_files::{Holds, Loaded, kind_of, load, save};
+use regmap_files::room::{FILE, zeros};
+use regmap_files::{Holds, kind_of, load, save};
 use regmap_page::page;
 use regmap_show::counts::{counted, say_counts};
 use regmap_show::{json, picture, records};
-use regmap_words::kinds;
-use regmap_words::kinds::{digest_ok, has_digest, is_json};
+use regmap_words::kinds::{Command, digest_ok};
+use regmap_words::line::Line;
 use regmap_words::map::register_on;
-use regmap_words::says::{DONE, OUT, REFUSED, TROUBLE, refuse};
+use regmap_words::says::{Failure, OUT, refuse};
 use text::hex;
-use text::print::{UNREAD, is_unread, say, say_number, say_with_hex, say3};
-use text::words::{blanked, find, is, part, word};
+use text::hex::Few;
+use text::print::{is_unread, say, say_number, say_with_hex, say3};
+use text::words::{blanked, is, part};
 
-// ---- checking
+// ---- what a file is, where its first bytes tell
 
-// A store that is refused for its bytes: what it is, where the first bytes tell.
-pub fn no_store(path: &[u8], store: &[u8], err: i32) -> usize {
+// A store that is refused for its bytes.
+pub fn no_store(path: &[u8], store: &[u8], err: i32) -> Failure {
     match kind_of(store) {
         Holds::Witness => say3(
             err,
@@ -37,15 +40,13 @@ pub fn no_store(path: &[u8], store: &[u8], err: i32) -> usize {
             path,
             b": refused (1) these are not the bytes of a store. If it is a map, build a store from it first.\n",
         ),
-        _ => {
-            refuse(err, path, 1);
-        }
+        _ => return refuse(err, path, Refusal::NotSound),
     }
-    REFUSED
+    Failure::Refused
 }
 
-// A file that is refused for its bytes: what it is, where the first bytes tell.
-pub(crate) fn no_witness(path: &[u8], bytes: &[u8], err: i32) -> usize {
+// A file that is refused for its bytes.
+pub(crate) fn no_witness(path: &[u8], bytes: &[u8], err: i32) -> Failure {
     match kind_of(bytes) {
         Holds::Store => say3(
             err,
@@ -65,28 +66,39 @@ pub(crate) fn no_witness(path: &[u8], bytes: &[u8], err: i32) -> usize {
             path,
             b": refused (9) these are not the bytes of a witness. Text out of a mail (hex, base64) must be turned into bytes first.\n",
         ),
-        _ => {
-            refuse(err, path, 9);
-        }
+        _ => return refuse(err, path, Refusal::Malformed),
     }
-    REFUSED
+    Failure::Refused
+}
+
+// The digest that a witness rebuilds to; or it is said why the file is no witness.
+fn digest_of(path: &[u8], witness: &[u8], err: i32) -> Result<[u8; 32], Failure> {
+    rebuild(witness).map_err(|_| no_witness(path, witness, err))
+}
+
+// ---- checking
+
+// A witness that is to be checked: its file, the digest that is wanted, in hex, and how the answer is said.
+#[derive(Clone, Copy)]
+pub(crate) struct Asked<'a> {
+    pub path: &'a [u8],
+    pub wanted: &'a [u8],
+    pub json: bool,
+    pub err: i32,
 }
 
 // Whether the digest is the one that is wanted, in hex.
 fn is_wanted(digest: &[u8], wanted: &[u8]) -> bool {
-    let few = hex::value(wanted);
-    let bytes = few.bytes;
-    is(digest, part(&bytes, 0, few.len))
+    hex::value(wanted).is_some_and(|few| is(digest, few.as_slice()))
 }
 
-fn say_match(path: &[u8], witness: &[u8]) -> usize {
+fn say_match(path: &[u8], witness: &[u8]) {
     say(OUT, path);
     say(OUT, b" matches: it rebuilds to that root digest.\n");
     say_counts(OUT, counted(witness));
-    DONE
 }
 
-fn say_other(path: &[u8], digest: &[u8], err: i32) -> usize {
+fn say_other(path: &[u8], digest: &[u8], err: i32) -> Failure {
     say3(err, b"regmap: ", path, b" does not match: ");
     say_with_hex(
         err,
@@ -94,127 +106,106 @@ fn say_other(path: &[u8], digest: &[u8], err: i32) -> usize {
         digest,
         b". It is no witness of that release: do not use it.\n",
     );
-    REFUSED
+    Failure::Refused
 }
 
 // A witness with its digest, against the one that is wanted.
-fn compared(
-    path: &[u8],
-    wanted: &[u8],
-    json: bool,
-    digest: &[u8],
-    witness: &[u8],
-    err: i32,
-) -> usize {
-    let same = is_wanted(digest, wanted);
-    if json {
+fn compared(asked: Asked, digest: &[u8], witness: &[u8]) -> Result<(), Failure> {
+    let same = is_wanted(digest, asked.wanted);
+    if asked.json {
         json::check(digest, same, counted(witness));
-        return if same { DONE } else { REFUSED };
+        return if same { Ok(()) } else { Err(Failure::Refused) };
     }
-    if same {
-        return say_match(path, witness);
+    if !same {
+        return Err(say_other(asked.path, digest, asked.err));
     }
-    say_other(path, digest, err)
+    say_match(asked.path, witness);
+    Ok(())
 }
 
-fn check(path: &[u8], wanted: &[u8], json: bool, witness: &[u8], err: i32) -> usize {
-    let r = rebuild(witness);
-    if r.number != 0 {
-        return no_witness(path, witness, err);
-    }
-    let digest = r.digest;
-    compared(path, wanted, json, &digest, witness, err)
+fn check(asked: Asked, witness: &[u8]) -> Result<(), Failure> {
+    let digest = digest_of(asked.path, witness, asked.err)?;
+    compared(asked, &digest, witness)
 }
 
 // ---- showing
 
-fn say_compared(line: &[u8], digest: &[u8], err: i32) -> usize {
-    if !has_digest(line) {
-        say(
-            OUT,
-            b"compared with nothing: check compares it with a root digest.\n",
-        );
-        return DONE;
+// Whether the digest is the one that is given, if one is.
+fn matches_given(line: Line, digest: &[u8]) -> Option<bool> {
+    if line.has_digest() {
+        return Some(is_wanted(digest, line.word(2)));
     }
-    if is_wanted(digest, word(line, 2)) {
-        say(OUT, b"it matches the digest given.\n");
-        return DONE;
-    }
-    say_other(word(line, 1), digest, err)
+    None
 }
 
-fn read_text(line: &[u8], witness: &[u8], err: i32) -> usize {
+fn read_text(line: Line, witness: &[u8]) -> Result<(), Failure> {
     records::read(witness);
-    let r = rebuild(witness);
-    if r.number != 0 {
-        return no_witness(word(line, 1), witness, err);
-    }
-    let digest = r.digest;
+    let digest = digest_of(line.word(1), witness, line.err)?;
     say_with_hex(OUT, b"root digest ", &digest, b"\n");
     say_counts(OUT, counted(witness));
-    say_compared(line, &digest, err)
+    match matches_given(line, &digest) {
+        None => say(
+            OUT,
+            b"compared with nothing: check compares it with a root digest.\n",
+        ),
+        Some(true) => say(OUT, b"it matches the digest given.\n"),
+        Some(false) => return Err(say_other(line.word(1), &digest, line.err)),
+    }
+    Ok(())
 }
 
 // As JSON, a picture or a page: of a witness that rebuild takes, and matches the digest if one is given.
-fn shown(kind: usize, line: &[u8], witness: &[u8], err: i32) -> usize {
-    let r = rebuild(witness);
-    if r.number != 0 {
-        return no_witness(word(line, 1), witness, err);
+fn shown(command: Command, line: Line, witness: &[u8]) -> Result<(), Failure> {
+    let digest = digest_of(line.word(1), witness, line.err)?;
+    let matches = matches_given(line, &digest);
+    match command {
+        Command::Read => json::read(witness, &digest, matches, counted(witness)),
+        Command::Dot => picture::dot(witness, &digest, matches == Some(true)),
+        _ => page(witness, &digest, matches),
     }
-    let digest = r.digest;
-    let compared = has_digest(line);
-    let same = is_wanted(&digest, word(line, 2));
-    match kind {
-        kinds::READ => json::read(witness, &digest, compared, same, counted(witness)),
-        kinds::DOT => picture::dot(witness, &digest, compared && same),
-        _ => page(witness, &digest, compared, same),
+    if matches == Some(false) {
+        return Err(say_other(line.word(1), &digest, line.err));
     }
-    if compared && !same {
-        return say_other(word(line, 1), &digest, err);
-    }
-    DONE
+    Ok(())
 }
 
 // ---- asking
 
-// What is said of a witness that matched, as a status.
-fn asked(path: &[u8], told: Told, err: i32) -> usize {
-    match told {
-        Told::Known => DONE,
-        Told::Silent => REFUSED,
-        Told::Refused(number) => {
-            refuse(err, path, number);
-            REFUSED
-        }
-    }
+// The name that a word gives; the words of a line were looked at before, so that it gives one where a name is wanted.
+pub fn name_in(word: &[u8]) -> Few {
+    hex::name(word).unwrap_or(hex::none())
 }
 
 // Nothing is said of a witness before its digest matched.
-fn ask_of(line: &[u8], witness: &[u8], err: i32) -> usize {
-    let r = rebuild(witness);
-    if r.number != 0 {
-        return no_witness(word(line, 1), witness, err);
+fn ask_of(line: Line, witness: &[u8]) -> Result<(), Failure> {
+    let digest = digest_of(line.word(1), witness, line.err)?;
+    if !is_wanted(&digest, line.word(2)) {
+        return Err(say_other(line.word(1), &digest, line.err));
     }
-    let digest = r.digest;
-    if !is_wanted(&digest, word(line, 2)) {
-        return say_other(word(line, 1), &digest, err);
+    match ask(witness, name_in(line.word(3)).as_slice()) {
+        Ok(Told::Known) => Ok(()),
+        Ok(Told::Silent) => Err(Failure::Refused),
+        Err(refusal) => Err(refuse(line.err, line.word(1), refusal)),
     }
-    let few = hex::name(word(line, 3));
-    let key = few.bytes;
-    asked(word(line, 1), ask(witness, part(&key, 0, few.len)), err)
 }
 
-fn show(kind: usize, line: &[u8], witness: &[u8], err: i32) -> usize {
-    if kind == kinds::ASK {
-        return ask_of(line, witness, err);
+fn show(command: Command, line: Line, witness: &[u8]) -> Result<(), Failure> {
+    match command {
+        Command::Ask => ask_of(line, witness),
+        Command::Check => check(asked_on(line), witness),
+        Command::Read if !line.is_json() => read_text(line, witness),
+        _ => shown(command, line, witness),
     }
-    if kind == kinds::CHECK {
-        return check(word(line, 1), word(line, 2), is_json(line), witness, err);
+}
+
+// What a line with `check` asks.
+fn asked_on(line: Line) -> Asked {
+    Asked {
+        path: line.word(1),
+        wanted: line.word(2),
+        json: line.is_json(),
+        err: line.err,
     }
-    if kind == kinds::READ && !is_json(line) {
-        return read_text(line, witness, err);
-    }
-    shown(kind, line, witness, err)
 }
 
 // ---- merging
@@ -227,115 +218,99 @@ pub fn said_to(path: &[u8]) -> i32 {
 // A witness that was written: its length, the digest that it rebuilds to, and what it shows.
 pub fn say_cut(path: &[u8], witness: &[u8]) {
     let to = said_to(path);
-    let r = rebuild(witness);
-    let digest = r.digest;
     say(to, path);
     say(to, b": ");
     say_number(to, witness.len());
-    say_with_hex(to, b" bytes, root ", &digest, b"\n");
+    say_rebuilt(to, b" bytes, root ", witness);
     say_counts(to, counted(witness));
 }
 
-fn say_root(path: &[u8], witness: &[u8], err: i32) {
-    let r = rebuild(witness);
-    let digest = r.digest;
+// The digest of a witness that was made here, and so rebuilds to one.
+fn say_rebuilt(to: i32, before: &[u8], witness: &[u8]) {
+    let digest = rebuild(witness).unwrap_or([0; 32]);
+    say_with_hex(to, before, &digest, b"\n");
+}
+
+fn say_root(path: &[u8], digest: &[u8], err: i32) {
     say3(err, b"  ", path, b" rebuilds to ");
-    say_with_hex(err, b"", &digest, b"\n");
+    say_with_hex(err, b"", digest, b"\n");
 }
 
 // Why two files do not merge.
-fn unmerged(line: &[u8], one: &[u8], other: &[u8], number: usize, err: i32) -> usize {
-    if rebuild(one).number != 0 {
-        return no_witness(word(line, 1), one, err);
-    }
-    if rebuild(other).number != 0 {
-        return no_witness(word(line, 2), other, err);
-    }
-    refuse(err, word(line, 2), number);
-    say_root(word(line, 1), one, err);
-    say_root(word(line, 2), other, err);
-    REFUSED
+fn unmerged(line: Line, one: &[u8], other: &[u8], refusal: Refusal) -> Result<(), Failure> {
+    let first = digest_of(line.word(1), one, line.err)?;
+    let second = digest_of(line.word(2), other, line.err)?;
+    let failure = refuse(line.err, line.word(2), refusal);
+    say_root(line.word(1), &first, line.err);
+    say_root(line.word(2), &second, line.err);
+    Err(failure)
 }
 
-fn merged(rt: &HostRuntime, line: &[u8], one: &[u8], other: &[u8], err: i32) -> usize {
-    let mut out = [0u8; 524_288];
-    let r = merge(one, other, &mut out);
-    if r.number != 0 {
-        return unmerged(line, one, other, r.number, err);
+fn merged(rt: &HostRuntime, line: Line, one: &[u8], other: &[u8]) -> Result<(), Failure> {
+    let mut out = zeros::<FILE>();
+    match merge(one, other, &mut out) {
+        Err(refusal) => unmerged(line, one, other, refusal),
+        Ok(n) => {
+            let witness = part(&out, 0, n);
+            save(rt, line.word(3), witness, false, line.err)?;
+            say_cut(line.word(3), witness);
+            Ok(())
+        }
     }
-    if !save(rt, word(line, 3), part(&out, 0, r.size), false, err) {
-        return TROUBLE;
-    }
-    say_cut(word(line, 3), part(&out, 0, r.size));
-    DONE
 }
 
 // Two witnesses of one release in one.
-pub fn merge_files(rt: &HostRuntime, line: &[u8], err: i32) -> usize {
-    let mut one = [0u8; 524_288];
-    let Loaded::Whole(n) = load(rt, word(line, 1), &mut one, err) else {
-        return TROUBLE;
-    };
-    let mut other = [0u8; 524_288];
-    let Loaded::Whole(m) = load(rt, word(line, 2), &mut other, err) else {
-        return TROUBLE;
-    };
-    merged(rt, line, part(&one, 0, n), part(&other, 0, m), err)
+pub fn merge_files(rt: &HostRuntime, line: Line) -> Result<(), Failure> {
+    let mut first = zeros::<FILE>();
+    let one = load(rt, line.word(1), &mut first, line.err)?;
+    let mut second = zeros::<FILE>();
+    let other = load(rt, line.word(2), &mut second, line.err)?;
+    merged(rt, line, one, other)
 }
 
 // ---- many files
 
-fn check_line(rt: &HostRuntime, line: &[u8], err: i32) -> usize {
-    if register_on(line) == 0 {
-        return DONE;
-    }
-    if !digest_ok(word(line, 0), err) {
-        return TROUBLE;
-    }
-    let mut buf = [0u8; 524_288];
-    let Loaded::Whole(n) = load(rt, word(line, 1), &mut buf, err) else {
-        return TROUBLE;
+// A line of a list: DIGEST WITNESS.
+fn check_line(rt: &HostRuntime, line: Line) -> Result<(), Failure> {
+    let asked = Asked {
+        path: line.word(1),
+        wanted: line.word(0),
+        json: false,
+        err: line.err,
     };
-    check(word(line, 1), word(line, 0), false, part(&buf, 0, n), err)
+    digest_ok(asked.wanted, asked.err)?;
+    let mut buf = zeros::<FILE>();
+    let witness = load(rt, asked.path, &mut buf, asked.err)?;
+    check(asked, witness)
 }
 
-// Every line of a list, DIGEST WITNESS; the worst status of all.
-fn check_lines(rt: &HostRuntime, list: &[u8], err: i32) -> usize {
-    let mut worst = DONE;
-    let mut at = 0;
-    while at < list.len() {
-        let end = find(list, at, b'\n');
-        let status = check_line(rt, &list[at..end], err);
+// Every line of a list; the worst that came of one.
+fn check_lines(rt: &HostRuntime, list: &[u8], err: i32) -> Result<(), Failure> {
+    let mut worst = Ok(());
+    for words in list.split(|b| *b == b'\n').filter(|line| register_on(line)) {
+        worst = worst.max(check_line(rt, Line { words, err }));
         if is_unread() {
-            return UNREAD as usize;
+            return Err(Failure::Unread);
         }
-        if worst < status {
-            worst = status;
-        }
-        at = end + 1;
     }
     worst
 }
 
-fn check_list(rt: &HostRuntime, path: &[u8], err: i32) -> usize {
-    let mut list = [0u8; 65_536];
-    let Loaded::Whole(n) = load(rt, path, &mut list, err) else {
-        return TROUBLE;
-    };
-    blanked(&mut list);
-    check_lines(rt, part(&list, 0, n), err)
+fn check_list(rt: &HostRuntime, path: &[u8], err: i32) -> Result<(), Failure> {
+    let mut buf = zeros::<65_536>();
+    let list = load(rt, path, &mut buf, err)?;
+    blanked(list);
+    check_lines(rt, list, err)
 }
 
-pub fn inspect(rt: &HostRuntime, kind: usize, line: &[u8], err: i32) -> usize {
-    if is(word(line, 1), b"-c") {
-        return check_list(rt, word(line, 2), err);
+pub fn inspect(rt: &HostRuntime, command: Command, line: Line) -> Result<(), Failure> {
+    if is(line.word(1), b"-c") {
+        return check_list(rt, line.word(2), line.err);
     }
-    if kind == kinds::CHECK && is(word(line, 1), b"-") {
-        return check_stream(rt, word(line, 2), is_json(line), err);
+    if command == Command::Check && is(line.word(1), b"-") {
+        return check_stream(rt, asked_on(line));
     }
-    let mut buf = [0u8; 524_288];
-    let Loaded::Whole(n) = load(rt, word(line, 1), &mut buf, err) else {
-        return TROUBLE;
-    };
-    show(kind, line, part(&buf, 0, n), err)
+    let mut buf = zeros::<FILE>();
+    let witness = load(rt, line.word(1), &mut buf, line.err)?;
+    show(command, line, witness)
 }

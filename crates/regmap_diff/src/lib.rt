@@ -1,86 +1,86 @@
 // The registers that differ between two stores: both are judged once, the list is taken once, and each line's values are looked up.
 #![tactic(auto)]
 
-ghost use Rattle.std.specs.Prelude.{◌+◌, ◌≤◌, ◌<◌, length};
+ghost use Rattle.std.specs.Prelude.{◌≤◌, length};
+ghost use Rattle.std.specs.Iterator.{at_most};
 ghost use Rattle.store.specs.Sound.{Sound};
 
-use difference::difference;
+use difference::{Change, difference};
 use judge::judge;
 use regmap_check::no_store;
-use regmap_files::{Loaded, load};
-use regmap_words::says::{DONE, OUT, REFUSED, TROUBLE};
-use search::{Place, get_place};
+use regmap_files::load;
+use regmap_files::room::{STORE, zeros};
+use regmap_words::line::Line;
+use regmap_words::says::{Failure, OUT};
+use search::get_place;
 use text::print::{say, say_name, say_number, say_with_hex};
-use text::words::{part, piece, word};
-
-// The longest store, and one byte more.
-const ROOM: usize = 153_609;
+use text::words::{part, piece};
 
 // A line for each entry of two full stores: one byte and a name of 48.
 const LONGEST: usize = 100_352;
+
+// A line of a difference: a name, and how the stores differ in it.
+#[derive(Clone, Copy)]
+struct Differs<'a> {
+    change: Change,
+    key: &'a [u8],
+}
+
+// The lines that are left of a difference, each a byte with kind and length and then the name.
+#[derive(Drop)]
+struct Lines<'a> {
+    rest: &'a [u8],
+}
+
+impl<'a> Iterator for Lines<'a> {
+    type Item = Differs<'a>;
+
+    ghost remaining = { λ s. at_most (length s.rest.now) };
+
+    fn next(&mut self) -> Option<Differs<'a>> {
+        let (first, others) = self.rest.split_first()?;
+        let len = usize::from(*first % 64).min(others.len());
+        let (key, rest) = others.split_at(len);
+        self.rest = rest;
+        let change = match *first / 64 {
+            1 => Change::Gone,
+            2 => Change::New,
+            _ => Change::Other,
+        };
+        Some(Differs { change, key })
+    }
+}
 
 // The value of a name; none, if it is not there.
 fn value_of<'a>(store: &'a [u8], key: &[u8]) -> &'a [u8]
     requires sound { Sound store.now }
     requires key_len_bound { length key.now ≤ 48 }
 {
-    let Place::At {
-        key_at: _,
-        key_length: _,
-        value_at,
-        value_length,
-    } = get_place(store, key)
-    else {
+    let Some(place) = get_place(store, key) else {
         return piece(store, 0, 0);
     };
-    piece(store, value_at, value_length)
+    piece(store, place.value_at, place.value_length)
 }
 
 // `- NAME HEX`, `+ NAME HEX` or `~ NAME OLD NEW`.
-fn say_line(old: &[u8], new: &[u8], kind: usize, key: &[u8])
+fn say_line(old: &[u8], new: &[u8], line: Differs)
     requires sound { Sound old.now }
     requires sound_2 { Sound new.now }
-    requires key_len_bound { length key.now ≤ 48 }
+    requires key_len_bound { length line.key.now ≤ 48 }
 {
-    match kind {
-        1 => say(OUT, b"- "),
-        2 => say(OUT, b"+ "),
-        _ => say(OUT, b"~ "),
+    match line.change {
+        Change::Gone => say(OUT, b"- "),
+        Change::New => say(OUT, b"+ "),
+        Change::Other => say(OUT, b"~ "),
     }
-    say_name(OUT, key);
-    if kind != 2 {
-        say_with_hex(OUT, b" ", value_of(old, key), b"");
+    say_name(OUT, line.key);
+    if !matches!(line.change, Change::New) {
+        say_with_hex(OUT, b" ", value_of(old, line.key), b"");
     }
-    if kind != 1 {
-        say_with_hex(OUT, b" ", value_of(new, key), b"");
+    if !matches!(line.change, Change::Gone) {
+        say_with_hex(OUT, b" ", value_of(new, line.key), b"");
     }
     say(OUT, b"\n");
-}
-
-fn wide(b: u8) -> usize
-    ensures { result < 256 }
-{
-    b as usize
-}
-
-// The line that begins at `at`; answers where the next one does.
-fn line_at(old: &[u8], new: &[u8], lines: &[u8], at: usize) -> usize
-    requires sound { Sound old.now }
-    requires sound_2 { Sound new.now }
-    requires at_in_bounds { at < length lines.now }
-    ensures { (at < result) × (result ≤ length lines.now) }
-{
-    let first = wide(lines[at]);
-    let len = first % 64;
-    if lines.len() - at <= len {
-        return lines.len();
-    }
-    let next = at + 1 + len;
-    let key = part(lines, at + 1, next);
-    if key.len() <= 48 {
-        say_line(old, new, first / 64, key);
-    }
-    next
 }
 
 // All lines; answers how many there are.
@@ -89,59 +89,59 @@ fn say_lines(old: &[u8], new: &[u8], lines: &[u8]) -> usize
     requires sound_2 { Sound new.now }
 {
     let mut n: usize = 0;
-    let mut at = 0;
-    while at < lines.len() {
-        at = line_at(old, new, lines, at);
-        n += 1;
+    for line in (Lines { rest: lines }) {
+        if line.key.len() <= 48 {
+            say_line(old, new, line);
+        }
+        n = n.saturating_add(1);
     }
     n
 }
 
-fn say_count(n: usize) -> usize {
+fn say_count(n: usize) -> Result<(), Failure> {
     if n == 0 {
         say(OUT, b"no difference\n");
-        return DONE;
+        return Ok(());
     }
     say_number(OUT, n);
-    if n == 1 {
-        say(OUT, b" difference\n");
-    } else {
-        say(OUT, b" differences\n");
-    }
-    REFUSED
+    say(
+        OUT,
+        if n == 1 {
+            b" difference\n"
+        } else {
+            b" differences\n"
+        },
+    );
+    Err(Failure::Refused)
 }
 
-fn differ(old: &[u8], new: &[u8], out: &mut [u8]) -> usize
+fn differ(old: &[u8], new: &[u8], out: &mut [u8]) -> Result<(), Failure>
     requires sound { Sound old.now }
     requires sound_2 { Sound new.now }
 {
-    let r = difference(old, new, out);
-    say_count(say_lines(old, new, part(out, 0, r.size)))
+    let n = difference(old, new, out).unwrap_or(0);
+    say_count(say_lines(old, new, part(out, 0, n)))
 }
 
 // The one that is not sound is named.
-fn compare(line: &[u8], old: &[u8], new: &[u8], err: i32) -> usize {
+fn compare(line: Line, old: &[u8], new: &[u8]) -> Result<(), Failure> {
     if !judge(old) {
-        no_store(word(line, 1), old, err);
-        return TROUBLE;
+        no_store(line.word(1), old, line.err);
+        return Err(Failure::Trouble);
     }
     if !judge(new) {
-        no_store(word(line, 2), new, err);
-        return TROUBLE;
+        no_store(line.word(2), new, line.err);
+        return Err(Failure::Trouble);
     }
-    let mut out = [0u8; LONGEST];
+    let mut out = zeros::<LONGEST>();
     differ(old, new, &mut out)
 }
 
-// Status 0: no difference; 1: some; 2: a file that can't be read, or is no sound store.
-pub fn diff(rt: &HostRuntime, line: &[u8], err: i32) -> usize {
-    let mut old = [0u8; ROOM];
-    let Loaded::Whole(n) = load(rt, word(line, 1), &mut old, err) else {
-        return TROUBLE;
-    };
-    let mut new = [0u8; ROOM];
-    let Loaded::Whole(m) = load(rt, word(line, 2), &mut new, err) else {
-        return TROUBLE;
-    };
-    compare(line, part(&old, 0, n), part(&new, 0, m), err)
+// No difference is done, some is refused; a file that can't be read, or is no sound store, is trouble.
+pub fn diff(rt: &HostRuntime, line: Line) -> Result<(), Failure> {
+    let mut first = zeros::<STORE>();
+    let old = load(rt, line.word(1), &mut first, line.err)?;
+    let mut second = zeros::<STORE>();
+    let new = load(rt, line.word(2), &mut second, line.err)?;
+    compare(line, old, new)
 }

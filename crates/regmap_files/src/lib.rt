@@ -2,6 +2,9 @@
 // A name `-` is standard input where a file is read, and standard output where one is written.
 #![tactic(auto)]
 
+pub mod room;
+
+use regmap_words::says::Failure;
 use std::fs::{File, OpenOptions};
 use std::io::{ErrorKind, Read, Seek, SeekFrom, Write};
 use std::os::fd::{AsRawFd, IntoRawFd};
@@ -10,46 +13,35 @@ use std::str::from_utf8;
 use std::{fs, io};
 use std_io::io::last_error;
 use text::print::{say, say_number, say3};
-use text::words::{is, part, word};
+use text::words::{is, part};
 
-const REASONS: [u8; 317] =
-    *b"the system refused it\0there is no such file or folder\0it is not permitted\0it is a folder\0\
-a folder of its path is a file\0the disk is full\0\
-its .new is there: another run is at work, or was cut off. Wait for it; if none is at work, remove that file\0\
-the file system may only be read\0its name is too long\0no reader is left";
-
-fn reason(error: io::Error) -> usize {
+fn reason(error: &io::Error) -> &'static [u8] {
     match error.kind() {
-        ErrorKind::NotFound => 1,
-        ErrorKind::PermissionDenied => 2,
-        ErrorKind::IsADirectory => 3,
-        ErrorKind::NotADirectory => 4,
-        ErrorKind::StorageFull => 5,
-        ErrorKind::AlreadyExists => 6,
-        ErrorKind::ReadOnlyFilesystem => 7,
-        ErrorKind::InvalidFilename => 8,
-        ErrorKind::BrokenPipe => 9,
-        _ => 0,
+        ErrorKind::NotFound => b"there is no such file or folder",
+        ErrorKind::PermissionDenied => b"it is not permitted",
+        ErrorKind::IsADirectory => b"it is a folder",
+        ErrorKind::NotADirectory => b"a folder of its path is a file",
+        ErrorKind::StorageFull => b"the disk is full",
+        ErrorKind::AlreadyExists =>
+            b"its .new is there: another run is at work, or was cut off. Wait for it; if none is at work, remove that file",
+        ErrorKind::ReadOnlyFilesystem => b"the file system may only be read",
+        ErrorKind::InvalidFilename => b"its name is too long",
+        ErrorKind::BrokenPipe => b"no reader is left",
+        _ => b"the system refused it",
     }
 }
 
 // Says why a call failed.
-pub fn trouble(err: i32, what: &[u8], path: &[u8], error: io::Error) {
-    let k = reason(error);
+pub fn trouble(err: i32, what: &[u8], path: &[u8], error: io::Error) -> Failure {
     say3(err, b"regmap: can't ", what, path);
-    say3(err, b": ", word(&REASONS, k), b".\n");
+    say3(err, b": ", reason(&error), b".\n");
+    Failure::Trouble
 }
 
 // ---- reading
 
-// How many bytes the file has, all of them at the front of the buffer; or nothing, and the reason was said.
-#[derive(Clone, Copy)]
-pub enum Loaded {
-    Whole(usize),
-    No,
-}
-
-// Reads until the file ends or the buffer is full: how many bytes, or why a read failed.
+// Reads until the file ends or the buffer is full: how many bytes, or why a read failed. The loop stays: std's read_exact tells no length
+// where a file ends early, and read_to_end needs a heap.
 fn read_all<R: Read>(file: &mut R, buf: &mut [u8]) -> io::Result<usize> {
     let mut n = 0;
     while n < buf.len() {
@@ -62,10 +54,11 @@ fn read_all<R: Read>(file: &mut R, buf: &mut [u8]) -> io::Result<usize> {
     Ok(n)
 }
 
-fn too_long(err: i32, path: &[u8], n: usize) {
+fn too_long(err: i32, path: &[u8], n: usize) -> Failure {
     say3(err, b"regmap: ", path, b" is too long: fewer than ");
     say_number(err, n);
     say(err, b" bytes are read.\n");
+    Failure::Trouble
 }
 
 // The system takes shorter paths than this.
@@ -76,10 +69,7 @@ fn named(path: &[u8]) -> io::Result<&str> {
     if path.len() >= PATH_MAX {
         return Err(io::Error::from(ErrorKind::InvalidFilename));
     }
-    match from_utf8(path) {
-        Ok(name) => Ok(name),
-        Err(_) => Err(io::Error::from(ErrorKind::InvalidInput)),
-    }
+    from_utf8(path).map_err(|_| io::Error::from(ErrorKind::InvalidInput))
 }
 
 // One that took the place of a standard stream stays open, so that nothing else takes it.
@@ -101,25 +91,24 @@ fn read_path(rt: &HostRuntime, path: &[u8], buf: &mut [u8]) -> io::Result<usize>
     read
 }
 
-pub fn load(rt: &HostRuntime, path: &[u8], buf: &mut [u8], err: i32) -> Loaded {
-    match read_path(rt, path, buf) {
-        Err(e) => {
-            trouble(err, b"read ", path, e);
-            Loaded::No
-        }
-        Ok(n) => {
-            if n < buf.len() {
-                return Loaded::Whole(n);
-            }
-            too_long(err, path, n);
-            Loaded::No
-        }
+// The bytes of the file, read into the buffer; or it was said why it could not be read whole.
+pub fn load<'a>(
+    rt: &HostRuntime,
+    path: &[u8],
+    buf: &'a mut [u8],
+    err: i32,
+) -> Result<&'a mut [u8], Failure> {
+    let n = read_path(rt, path, buf).map_err(|e| trouble(err, b"read ", path, e))?;
+    if n < buf.len() {
+        return Ok(&mut buf[..n]);
     }
+    Err(too_long(err, path, n))
 }
 
 // ---- what a file holds, by its first two bytes
 
-#[derive(Clone, Copy)]
+// No bytes are a kind as the others are: what is said of a file is chosen among all five.
+#[derive(Clone, Copy, Debug, PartialEq, Eq)]
 pub enum Holds {
     Nothing,
     Store,
@@ -130,142 +119,95 @@ pub enum Holds {
 
 // A store's edition is 1, in four bits; a witness opens with a record, and its CBOR with an array and a kind.
 fn holds_pair(a: u8, b: u8) -> Holds {
-    match a {
-        0x10..=0x1f => Holds::Store,
-        0x00 | 0x20 => { if b == 0 { Holds::Witness } else { Holds::Other } }
-        0x40 => {
-            if b <= 48 {
-                Holds::Witness
-            } else {
-                Holds::Other
-            }
-        }
-        0x60 => {
-            if b <= 64 {
-                Holds::Witness
-            } else {
-                Holds::Other
-            }
-        }
-        0x80 => {
-            if b == 32 {
-                Holds::Witness
-            } else {
-                Holds::Other
-            }
-        }
-        0x81 => { if b == 0 { Holds::Cbor } else { Holds::Other } }
-        0x82 => {
-            match b {
-                3 | 4 => Holds::Cbor,
-                _ => Holds::Other,
-            }
-        }
-        0x83 => {
-            match b {
-                1 | 2 => Holds::Cbor,
-                _ => Holds::Other,
-            }
-        }
+    match (a, b) {
+        (0x10..=0x1f, _) => Holds::Store,
+        (0x00 | 0x20, 0) | (0x40, 0..=48) | (0x60, 0..=64) | (0x80, 32) => Holds::Witness,
+        (0x81, 0) | (0x82, 3 | 4) | (0x83, 1 | 2) => Holds::Cbor,
         _ => Holds::Other,
     }
 }
 
 pub fn kind_of(bytes: &[u8]) -> Holds {
-    if bytes.len() == 0 {
-        return Holds::Nothing;
+    match bytes {
+        [] => Holds::Nothing,
+        [_] => Holds::Other,
+        [a, b, ..] => holds_pair(*a, *b),
     }
-    if bytes.len() == 1 {
-        return Holds::Other;
-    }
-    holds_pair(bytes[0], bytes[1])
 }
 
 // ---- writing
 
-// The path with `.new` after it: the name under which a file is written, and which holds it while it is changed.
+// The longest path beside which a file is written.
+const LONGEST: usize = 3999;
+
+// The path with `.new` after it: the name under which a file is written, and which holds it while it is changed. A buffer with its length
+// beside it, since nothing here has a heap.
 #[derive(Clone, Copy)]
 struct NewName {
     len: usize,
-    name: [u8; 4096],
+    name: [u8; 4003],
 }
 
-fn letter(path: &[u8], i: usize) -> u8 {
-    if i < path.len() {
-        return path[i];
+impl NewName {
+    fn of(path: &[u8]) -> io::Result<NewName> {
+        let n = path.len();
+        if LONGEST < n {
+            return Err(io::Error::from(ErrorKind::InvalidFilename));
+        }
+        let mut name = [0u8; 4003];
+        name[..n].copy_from_slice(path);
+        name[n..n + 4].copy_from_slice(b".new");
+        Ok(NewName { len: n + 4, name })
     }
-    let end = *b".new";
-    let k = i - path.len();
-    if k < 4 { end[k] } else { 0 }
-}
 
-// A path that is too long gives a name that no file can have.
-fn beside(path: &[u8]) -> NewName {
-    let mut name = [0u8; 4096];
-    let mut i = 0;
-    while i < 4096 {
-        name[i] = letter(path, i);
-        i += 1;
+    fn as_slice(&self) -> &[u8] {
+        part(&self.name, 0, self.len)
     }
-    if path.len() < 4000 {
-        return NewName {
-            len: path.len() + 4,
-            name,
-        };
-    }
-    NewName { len: 4096, name }
 }
 
 fn create(rt: &HostRuntime, path: &[u8]) -> io::Result<File> {
+    let beside = NewName::of(path)?;
     OpenOptions::new()
         .write(true)
         .create_new(true)
-        .open(rt, named(path)?)
+        .open(rt, named(beside.as_slice())?)
 }
 
-// Makes the `.new`, which nobody else can make until it is gone; nothing if it can't be made, and that was said.
-pub fn lock(rt: &HostRuntime, path: &[u8], err: i32) -> Option<File> {
+// Makes the `.new`, which nobody else can make until it is gone; or it was said why it can't be made.
+pub fn lock(rt: &HostRuntime, path: &[u8], err: i32) -> Result<File, Failure> {
     if is(path, b"-") {
         say(
             err,
             b"regmap: - is no file that can be changed: name one.\n",
         );
-        return None;
+        return Err(Failure::Trouble);
     }
-    let b = beside(path);
-    let name = b.name;
-    match create(rt, part(&name, 0, b.len)) {
-        Err(e) => {
-            trouble(err, b"write ", path, e);
-            None
-        }
-        Ok(file) => above_standard(rt, file, path, err),
-    }
+    let file = create(rt, path).map_err(|e| trouble(err, b"write ", path, e))?;
+    above_standard(rt, file, path, err)
 }
 
 // The file, unless it took the place of a standard stream that is not open.
-fn above_standard(rt: &HostRuntime, file: File, path: &[u8], err: i32) -> Option<File> {
+fn above_standard(rt: &HostRuntime, file: File, path: &[u8], err: i32) -> Result<File, Failure> {
     if file.as_raw_fd() < 3 {
         release(rt, file, path);
         say(
             err,
             b"regmap: standard input, output and error must be open.\n",
         );
-        return None;
+        return Err(Failure::Trouble);
     }
-    Some(file)
+    Ok(file)
 }
 
 fn remove(rt: &HostRuntime, path: &[u8]) -> io::Result<()> {
-    fs::remove_file(rt, named(path)?)
+    let beside = NewName::of(path)?;
+    fs::remove_file(rt, named(beside.as_slice())?)
 }
 
 // Gives the file up as it was.
 pub fn release(rt: &HostRuntime, file: File, path: &[u8]) {
     drop(file);
-    let b = beside(path);
-    let name = b.name;
-    let _ = remove(rt, part(&name, 0, b.len));
+    let _ = remove(rt, path);
 }
 
 fn put(file: &mut File, bytes: &[u8]) -> io::Result<()> {
@@ -273,27 +215,28 @@ fn put(file: &mut File, bytes: &[u8]) -> io::Result<()> {
     file.sync_all()
 }
 
-fn rename(rt: &HostRuntime, from: &[u8], to: &[u8]) -> io::Result<()> {
-    fs::rename(rt, named(from)?, named(to)?)
-}
-
 // Writes all of the bytes to the `.new` and gives it its name.
 fn placed(rt: &HostRuntime, file: &mut File, path: &[u8], bytes: &[u8]) -> io::Result<()> {
     put(file, bytes)?;
-    let b = beside(path);
-    let name = b.name;
-    rename(rt, part(&name, 0, b.len), path)
+    let beside = NewName::of(path)?;
+    fs::rename(rt, named(beside.as_slice())?, named(path)?)
 }
 
 // Writes a file that is held, and puts it in its place once it is whole.
-pub fn finish(rt: &HostRuntime, mut file: File, path: &[u8], bytes: &[u8], err: i32) -> bool {
+pub fn finish(
+    rt: &HostRuntime,
+    mut file: File,
+    path: &[u8],
+    bytes: &[u8],
+    err: i32,
+) -> Result<(), Failure> {
     match placed(rt, &mut file, path, bytes) {
         Err(e) => {
-            trouble(err, b"write ", path, e);
+            let failure = trouble(err, b"write ", path, e);
             release(rt, file, path);
-            false
+            Err(failure)
         }
-        Ok(()) => true,
+        Ok(()) => Ok(()),
     }
 }
 
@@ -325,32 +268,14 @@ fn called(kind: Holds, to: i32) {
     }
 }
 
-fn number(kind: Holds) -> usize {
-    match kind {
-        Holds::Nothing => 0,
-        Holds::Store => 1,
-        Holds::Witness => 2,
-        Holds::Cbor => 3,
-        Holds::Other => 4,
-    }
-}
-
-fn is_kind(kind: Holds, wanted: Holds) -> bool {
-    let n = number(kind);
-    if n == 0 {
-        return true;
-    }
-    n == number(wanted)
-}
-
-fn kept(path: &[u8], wanted: Holds, err: i32) -> bool {
+fn kept(path: &[u8], wanted: Holds, err: i32) -> Failure {
     say3(err, b"regmap: ", path, b" is there, and is no ");
     called(wanted, err);
     say(
         err,
         b": it is not written over. Choose another name, or remove it.\n",
     );
-    false
+    Failure::Trouble
 }
 
 fn open_update(rt: &HostRuntime, path: &[u8]) -> io::Result<File> {
@@ -362,54 +287,48 @@ fn open_update(rt: &HostRuntime, path: &[u8]) -> io::Result<File> {
 
 // Whether what stands under a name may be replaced: nothing is there, or a regular file that is empty or holds the same kind of bytes. So
 // no input is ever written over, under whatever name.
-fn may_replace(rt: &HostRuntime, path: &[u8], wanted: Holds, err: i32) -> bool {
+fn may_replace(rt: &HostRuntime, path: &[u8], wanted: Holds, err: i32) -> Result<(), Failure> {
     match open_update(rt, path) {
-        Err(e) => {
-            if e.kind() == ErrorKind::NotFound {
-                return true;
-            }
-            trouble(err, b"write ", path, e);
-            false
-        }
+        Err(e) if e.kind() == ErrorKind::NotFound => Ok(()),
+        Err(e) => Err(trouble(err, b"write ", path, e)),
         Ok(file) => is_ours(file, path, wanted, err),
     }
 }
 
 // Whether the open file is a regular file that is empty or holds the same kind of bytes.
-fn is_ours(mut file: File, path: &[u8], wanted: Holds, err: i32) -> bool {
+fn is_ours(mut file: File, path: &[u8], wanted: Holds, err: i32) -> Result<(), Failure> {
     let kind = head(&file);
-    let ours = is_kind(kind, wanted) && is_file(&mut file);
+    let ours = (kind == Holds::Nothing || kind == wanted) && is_file(&mut file);
     closed(file);
     if ours {
-        return true;
+        return Ok(());
     }
-    kept(path, wanted, err)
+    Err(kept(path, wanted, err))
 }
 
 // What stands there is no file of ours, whatever it looks like.
 fn is_system(path: &[u8]) -> bool {
-    if is(part(path, 0, 5), b"/dev/") {
-        return true;
-    }
-    is(part(path, 0, 6), b"/proc/")
+    is(part(path, 0, 5), b"/dev/") || is(part(path, 0, 6), b"/proc/")
 }
 
 // One that nobody reads any more is not said: it ends the program (`text::print::is_unread`).
-fn sent(rt: &HostRuntime, bytes: &[u8], err: i32) -> bool {
+fn sent(rt: &HostRuntime, bytes: &[u8], err: i32) -> Result<(), Failure> {
     let mut output = rt.stdout();
     match Write::write_all(&mut output, bytes) {
-        Err(e) => {
-            if e.kind() != ErrorKind::BrokenPipe {
-                trouble(err, b"write ", b"standard output", e);
-            }
-            false
-        }
-        Ok(()) => true,
+        Err(e) if e.kind() == ErrorKind::BrokenPipe => Err(Failure::Trouble),
+        Err(e) => Err(trouble(err, b"write ", b"standard output", e)),
+        Ok(()) => Ok(()),
     }
 }
 
-// Writes a file of this kind; no, where that can't be, and it was said.
-pub fn save_as(rt: &HostRuntime, path: &[u8], bytes: &[u8], kind: Holds, err: i32) -> bool {
+// Writes a file of this kind, or says why that can't be.
+pub fn save_as(
+    rt: &HostRuntime,
+    path: &[u8],
+    bytes: &[u8],
+    kind: Holds,
+    err: i32,
+) -> Result<(), Failure> {
     if is(path, b"-") {
         return sent(rt, bytes, err);
     }
@@ -420,19 +339,21 @@ pub fn save_as(rt: &HostRuntime, path: &[u8], bytes: &[u8], kind: Holds, err: i3
             path,
             b" is no file to be written: - is standard output.\n",
         );
-        return false;
+        return Err(Failure::Trouble);
     }
-    if !may_replace(rt, path, kind, err) {
-        return false;
-    }
-    match lock(rt, path, err) {
-        None => false,
-        Some(file) => finish(rt, file, path, bytes, err),
-    }
+    may_replace(rt, path, kind, err)?;
+    let file = lock(rt, path, err)?;
+    finish(rt, file, path, bytes, err)
 }
 
 // A store or a witness.
-pub fn save(rt: &HostRuntime, path: &[u8], bytes: &[u8], store: bool, err: i32) -> bool {
+pub fn save(
+    rt: &HostRuntime,
+    path: &[u8],
+    bytes: &[u8],
+    store: bool,
+    err: i32,
+) -> Result<(), Failure> {
     let kind = if store { Holds::Store } else { Holds::Witness };
     save_as(rt, path, bytes, kind, err)
 }

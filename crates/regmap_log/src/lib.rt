@@ -1,11 +1,15 @@
 // A build log shown, a line a record, and what is wrong with the first record that is malformed.
 #![tactic(auto)]
 
-use regmap_files::{Loaded, load};
-use regmap_words::says::{DONE, OUT, REFUSED, TROUBLE};
-use replay::{Fault, INSERT, LogRecord, MODIFY, record_at};
+ghost use Rattle.std.specs.Prelude.{◌-◌, length};
+ghost use Rattle.std.specs.Iterator.{at_most};
+
+use regmap_files::load;
+use regmap_files::room::{FILE, zeros};
+use regmap_words::line::Line;
+use regmap_words::says::{Failure, OUT};
+use replay::{Fault, Operation, record_at};
 use text::print::{say, say_name, say_number, say_with_hex, say3};
-use text::words::{part, piece, word};
 
 // ---- one record
 
@@ -15,13 +19,13 @@ fn say_with_value(operation: &[u8], key: &[u8], value: &[u8]) {
     say_with_hex(OUT, b" ", value, b"\n");
 }
 
-fn say_record(operation: usize, key: &[u8], value: &[u8]) {
-    match operation {
-        INSERT => say_with_value(b"insert ", key, value),
-        MODIFY => say_with_value(b"modify ", key, value),
-        _ => {
+fn say_record(entry: Entry) {
+    match entry.operation {
+        Operation::Insert => say_with_value(b"insert ", entry.key, entry.value),
+        Operation::Modify => say_with_value(b"modify ", entry.key, entry.value),
+        Operation::Delete => {
             say(OUT, b"delete ");
-            say_name(OUT, key);
+            say_name(OUT, entry.key);
             say(OUT, b"\n");
         }
     }
@@ -43,94 +47,129 @@ fn say_wrong(err: i32, fault: Fault) {
 
 // ---- the whole log
 
-// How many records could be read, and the place after them: the log's end, or the first that is malformed.
+// A record: what it does, to which name, with which value.
 #[derive(Clone, Copy)]
-pub struct Reading {
-    pub records: usize,
+pub struct Entry<'a> {
+    pub operation: Operation,
+    pub key: &'a [u8],
+    pub value: &'a [u8],
+}
+
+// A record that is malformed: its number, counted from 1, its place and what is wrong.
+#[derive(Clone, Copy)]
+pub struct Malformed {
+    pub number: usize,
     pub at: usize,
+    pub fault: Fault,
 }
 
-// Reads record after record; shown, a line each.
-pub fn read(log: &[u8], shown: bool) -> Reading {
-    let mut records = 0;
-    let mut at = 0;
-    while at < log.len() {
-        let LogRecord::Whole {
-            operation,
-            key_length,
-            value_length,
-        } = record_at(log, at)
-        else {
-            return Reading { records, at };
-        };
-        let key = at + 2;
-        let value = key + key_length;
-        if shown {
-            say_record(
-                operation,
-                piece(log, key, key_length),
-                piece(log, value, value_length),
-            );
+// What is left of a log: its records, up to the first that is malformed.
+#[derive(Drop)]
+pub struct Entries<'a> {
+    log: &'a [u8],
+    at: usize,
+    number: usize,
+}
+
+impl<'a> Iterator for Entries<'a> {
+    type Item = Result<Entry<'a>, Malformed>;
+
+    ghost remaining = { λ s. at_most (length s.log.now - s.at) };
+
+    fn next(&mut self) -> Option<Result<Entry<'a>, Malformed>> {
+        let log = self.log;
+        let at = self.at;
+        if log.len() <= at {
+            return None;
         }
-        at = value + value_length;
-        records += 1;
+        // A log that is read has fewer than 262,144 records of two bytes.
+        self.number = self.number.saturating_add(1);
+        match record_at(log, at) {
+            Ok(record) => {
+                let key = at + 2;
+                let value = key + record.key_length;
+                let end = value + record.value_length;
+                self.at = end;
+                Some(Ok(Entry {
+                    operation: record.operation,
+                    key: &log[key..value],
+                    value: &log[value..end],
+                }))
+            }
+            Err(fault) => {
+                self.at = log.len();
+                Some(Err(Malformed {
+                    number: self.number,
+                    at,
+                    fault,
+                }))
+            }
+        }
     }
-    Reading { records, at }
 }
 
-// The number after this one; a log has fewer than a million records.
-fn after(n: usize) -> usize {
-    if n < 1_000_000 { n + 1 } else { n }
+// Reads record after record.
+pub fn read<'a>(log: &'a [u8]) -> Entries<'a> {
+    Entries {
+        log,
+        at: 0,
+        number: 0,
+    }
 }
 
-// Names the first record that is malformed, its place and what is wrong.
-fn say_fault(err: i32, path: &[u8], log: &[u8], r: Reading) {
-    let LogRecord::Malformed { fault } = record_at(log, r.at) else {
-        return;
-    };
+// Names a record that is malformed, its place and what is wrong.
+fn say_fault(err: i32, path: &[u8], bad: Malformed) {
     say3(err, b"regmap: ", path, b": refused (13) record ");
-    say_number(err, after(r.records));
+    say_number(err, bad.number);
     say(err, b", at byte ");
-    say_number(err, r.at);
+    say_number(err, bad.at);
     say(err, b", is malformed: ");
-    say_wrong(err, fault);
+    say_wrong(err, bad.fault);
     say(err, b".\n");
 }
 
 // A log that was refused.
-pub fn refuse_log(err: i32, path: &[u8], log: &[u8]) -> usize {
-    say_fault(err, path, log, read(log, false));
-    REFUSED
+pub fn refuse_log(err: i32, path: &[u8], log: &[u8]) -> Failure {
+    for entry in read(log) {
+        if let Err(bad) = entry {
+            say_fault(err, path, bad);
+        }
+    }
+    Failure::Refused
 }
 
 // ---- the command
 
-fn showed(path: &[u8], log: &[u8], err: i32) -> usize {
-    let r = read(log, true);
-    if r.at < log.len() {
-        say_fault(err, path, log, r);
-        return REFUSED;
+// Shows the records, up to the first that is malformed.
+fn showed(log: &[u8]) -> Result<(), Malformed> {
+    for entry in read(log) {
+        say_record(entry?);
     }
-    DONE
+    Ok(())
 }
 
-pub fn show(rt: &HostRuntime, line: &[u8], err: i32) -> usize {
-    let mut log = [0u8; 524_288];
-    let Loaded::Whole(n) = load(rt, word(line, 1), &mut log, err) else {
-        return TROUBLE;
-    };
-    showed(word(line, 1), part(&log, 0, n), err)
+pub fn show(rt: &HostRuntime, line: Line) -> Result<(), Failure> {
+    let mut buf = zeros::<FILE>();
+    let log = load(rt, line.word(1), &mut buf, line.err)?;
+    if let Err(bad) = showed(log) {
+        say_fault(line.err, line.word(1), bad);
+        return Err(Failure::Refused);
+    }
+    Ok(())
 }
 
 // "3 records: 1 found no room, 1 no register".
 pub fn say_replayed(log: &[u8], full: usize, absent: usize) {
-    let r = read(log, false);
-    say_number(OUT, r.records);
-    if r.records == 1 {
-        say(OUT, b" record: ");
-    } else {
-        say(OUT, b" records: ");
-    }
+    let records = read(log).count();
+    say_number(OUT, records);
+    say(
+        OUT,
+        if records == 1 {
+            b" record: "
+        } else {
+            b" records: "
+        },
+    );
     say_number(OUT, full);
     say(OUT, b" found no room, ");
     say_number(OUT, absent);

@@ -2,28 +2,12 @@
 // order of names, and the tree as SVG: names and hidden parts one below the other, the tree to their left.
 #![tactic(auto)]
 
-use hash_tree::{FORK, LABELED, LEAF, MAX_DEPTH, PRUNED, Record};
-use regmap_show::counts::{counted, say_counts};
+use hash_tree::{Kind, MAX_DEPTH};
+use regmap_show::counts::{counted, is_item, say_counts};
 use text::print::{is_plain, say, say_hex, say_number, say3};
-use text::words::part;
-use witness_reader::{place_after, record_from};
+use witness_reader::{Records, Shown};
 
 const OUT: i32 = 1;
-
-fn kind_at(w: &[u8], at: usize) -> usize {
-    let Record::Whole { kind, len: _ } = record_from(w, at) else {
-        return 0;
-    };
-    kind
-}
-
-// The record's own bytes.
-fn bytes_at(w: &[u8], at: usize) -> &[u8] {
-    if 1_000_000 < at {
-        return part(w, 0, 0);
-    }
-    part(w, at + 2, place_after(w, at))
-}
 
 // ---- names and values
 
@@ -36,107 +20,71 @@ fn say_letter(b: u8) {
     }
 }
 
-fn say_letters(name: &[u8]) {
-    let mut i = 0;
-    while i < name.len() {
-        say_letter(name[i]);
-        i += 1;
-    }
-}
-
 fn say_label(name: &[u8]) {
     if is_plain(name) {
-        return say_letters(name);
+        for b in name {
+            say_letter(*b);
+        }
+        return;
     }
     say(OUT, b"hex:");
-    if name.len() > 0 {
+    if !name.is_empty() {
         say_hex(OUT, name);
     }
 }
 
+// The record that stands under a label.
+fn child<'a>(w: &'a [u8], label: Shown) -> Option<Shown<'a>> {
+    Records::starting_at(w, label.end).next()
+}
+
 // What stands under a label: its value, or that it is hidden.
-fn say_value(w: &[u8], at: usize) {
-    let kind = kind_at(w, at);
-    if kind == LEAF {
-        return say_hex(OUT, bytes_at(w, at));
+fn say_value(child: Option<Shown>) {
+    match child {
+        Some(record) if record.kind == Kind::Leaf => say_hex(OUT, record.bytes),
+        Some(record) if record.kind == Kind::Pruned => say(OUT, b"value hidden"),
+        _ => say(OUT, b"a tree"),
     }
-    if kind == PRUNED {
-        return say(OUT, b"value hidden");
-    }
-    say(OUT, b"a tree");
 }
 
 // ---- the list
 
-// The kind of the last name or hidden part, 0 if there was none, and the kind of the record before.
-#[derive(Clone, Copy)]
-struct Last {
-    item: usize,
-    before: usize,
-}
-
-fn is_item(kind: usize, before: usize) -> bool {
-    if kind == LABELED {
-        return true;
-    }
-    kind == PRUNED && before != LABELED
-}
-
-fn row_gap(last: usize, kind: usize) {
-    if kind != LABELED {
+// What is proved to be empty before an item.
+fn row_gap(last: Option<Shown>, item: Shown) {
+    if item.kind != Kind::Labeled {
         return;
     }
-    if last == LABELED {
-        return say(OUT, b"<tr class=gap><td colspan=2>nothing between\n");
-    }
-    if last == 0 {
-        say(OUT, b"<tr class=gap><td colspan=2>nothing before\n");
+    match last {
+        None => say(OUT, b"<tr class=gap><td colspan=2>nothing before\n"),
+        Some(before) if before.kind == Kind::Labeled => {
+            say(OUT, b"<tr class=gap><td colspan=2>nothing between\n")
+        }
+        _ => {}
     }
 }
 
-fn row(w: &[u8], at: usize, kind: usize) {
-    if kind == PRUNED {
-        say(
+fn row(w: &[u8], item: Shown) {
+    if item.kind == Kind::Pruned {
+        return say(
             OUT,
             b"<tr class=hidden><td>hidden<td>one register or more\n",
         );
-        return;
     }
     say(OUT, b"<tr><td><b>");
-    say_label(bytes_at(w, at));
+    say_label(item.bytes);
     say(OUT, b"</b><td>");
-    say_value(w, place_after(w, at));
+    say_value(child(w, item));
     say(OUT, b"\n");
 }
 
-fn step(w: &[u8], at: usize, last: Last) -> Last {
-    let kind = kind_at(w, at);
-    if !is_item(kind, last.before) {
-        return Last {
-            item: last.item,
-            before: kind,
-        };
-    }
-    row_gap(last.item, kind);
-    row(w, at, kind);
-    Last {
-        item: kind,
-        before: kind,
-    }
-}
-
 fn rows(w: &[u8]) {
-    let mut last = Last { item: 0, before: 0 };
-    let mut at = 0;
-    let mut left = w.len() / 2;
-    while left > 0 {
-        if at < w.len() {
-            last = step(w, at, last);
-            at = place_after(w, at);
-        }
-        left -= 1;
+    let mut last = None;
+    for item in Records::new(w).filter(|record| is_item(*record)) {
+        row_gap(last, item);
+        row(w, item);
+        last = Some(item);
     }
-    if last.item == LABELED {
+    if last.is_some_and(|item| item.kind == Kind::Labeled) {
         say(OUT, b"<tr class=gap><td colspan=2>nothing after\n");
     }
 }
@@ -151,22 +99,12 @@ const STEP: usize = 30;
 const LEVEL: usize = 14;
 
 fn across(depth: usize) -> usize {
-    if depth < 23 {
-        depth * LEVEL
-    } else {
-        23 * LEVEL
-    }
+    depth.min(23) * LEVEL
 }
 
+// Where a row stands. The tree of a long file can have more, which stand at the top, as they did: `html` writes what it wrote of any file.
 fn down(row: usize) -> usize {
     if row < 100_000 { row * STEP + 20 } else { 0 }
-}
-
-fn middle(a: usize, b: usize) -> usize {
-    if 10_000_000 < a {
-        return a;
-    }
-    if b < 10_000_000 { (a + b) / 2 } else { b }
 }
 
 fn line(x: usize, y: usize, to_x: usize, to_y: usize) {
@@ -197,86 +135,73 @@ fn draw_gap(y: usize) {
     say(OUT, b"nothing between</text>\n");
 }
 
-fn draw_item(w: &[u8], at: usize, kind: usize, y: usize) {
-    if 10_000_000 < y {
-        return;
+// An item of the tree; what stands under it, if it is a label.
+fn draw_item(item: Shown, child: Option<Shown>, y: usize) {
+    let line = y.saturating_add(5);
+    match item.kind {
+        Kind::Pruned => {
+            word_at(b"hidden", COLUMN + 4, line);
+            say(OUT, b"hidden: one register or more</text>\n");
+        }
+        Kind::Labeled => {
+            word_at(b"name", COLUMN + 4, line);
+            say_label(item.bytes);
+            say(OUT, b" <tspan class=value>");
+            say_value(child);
+            say(OUT, b"</tspan></text>\n");
+        }
+        _ => {
+            word_at(b"name", COLUMN + 4, line);
+            say(OUT, b"no register</text>\n");
+        }
     }
-    if kind == PRUNED {
-        word_at(b"hidden", COLUMN + 4, y + 5);
-        return say(OUT, b"hidden: one register or more</text>\n");
-    }
-    word_at(b"name", COLUMN + 4, y + 5);
-    if kind != LABELED {
-        return say(OUT, b"no register</text>\n");
-    }
-    say_label(bytes_at(w, at));
-    say(OUT, b" <tspan class=value>");
-    say_value(w, place_after(w, at));
-    say(OUT, b"</tspan></text>\n");
 }
 
-// A tree that was drawn: the place after it, the rows that are taken, its height, and the kind of its last item.
-#[derive(Clone, Copy)]
+// What of a tree was drawn: the rows that are taken, the height of the last tree, and the kind of the last item.
+#[derive(Clone, Copy, Default)]
 struct Drawn {
-    next: usize,
     row: usize,
     y: usize,
-    last: usize,
+    last: Option<Kind>,
 }
 
-// The place after the tree under a label, which is a value or hidden in a store's witness.
-fn past(w: &[u8], at: usize) -> usize {
-    place_after(w, place_after(w, at))
-}
-
-fn item(w: &[u8], at: usize, depth: usize, from: Drawn) -> Drawn {
-    let kind = kind_at(w, at);
-    let row = from.row;
-    let y = down(row);
-    if from.last == LABELED && kind == LABELED {
+// The tree under a label is a value or hidden in a store's witness: one record.
+fn draw_leaf(left: &mut Records, item: Shown, depth: usize, from: Drawn) -> Drawn {
+    let y = down(from.row);
+    if from.last == Some(Kind::Labeled) && item.kind == Kind::Labeled {
         draw_gap(y);
     }
     line(across(depth), y, COLUMN, y);
-    draw_item(w, at, kind, y);
-    let next = if kind == LABELED {
-        past(w, at)
+    let child = if item.kind == Kind::Labeled {
+        left.next()
     } else {
-        place_after(w, at)
+        None
     };
+    draw_item(item, child, y);
     Drawn {
-        next,
-        row: if row < 100_000 { row + 1 } else { row },
+        row: from.row.saturating_add(1),
         y,
-        last: kind,
+        last: Some(item.kind),
     }
 }
 
-// Draws the tree at `from.next`, below the level `depth`.
-fn tree(w: &[u8], depth: usize, from: Drawn) -> Drawn {
-    let at = from.next;
+// Draws the tree that is next, below the level `depth`.
+fn tree(left: &mut Records, depth: usize, from: Drawn) -> Drawn {
     if MAX_DEPTH < depth {
         return from;
     }
-    if kind_at(w, at) != FORK {
-        return item(w, at, depth, from);
-    }
-    let start = Drawn {
-        next: place_after(w, at),
-        row: from.row,
-        y: from.y,
-        last: from.last,
+    let Some(record) = left.next() else {
+        return from;
     };
-    let left = tree(w, depth + 1, start);
-    let right = tree(w, depth + 1, left);
-    let y = middle(left.y, right.y);
-    line(across(depth + 1), left.y, across(depth + 1), right.y);
-    line(across(depth), y, across(depth + 1), y);
-    Drawn {
-        next: right.next,
-        row: right.row,
-        y,
-        last: right.last,
+    if record.kind != Kind::Fork {
+        return draw_leaf(left, record, depth, from);
     }
+    let low = tree(left, depth + 1, from);
+    let high = tree(left, depth + 1, low);
+    let y = low.y.midpoint(high.y);
+    line(across(depth + 1), low.y, across(depth + 1), high.y);
+    line(across(depth), y, across(depth + 1), y);
+    Drawn { y, ..high }
 }
 
 fn drawing(w: &[u8], rows: usize) {
@@ -286,34 +211,23 @@ fn drawing(w: &[u8], rows: usize) {
     );
     say_number(OUT, down(rows));
     say(OUT, b">\n");
-    tree(
-        w,
-        0,
-        Drawn {
-            next: 0,
-            row: 0,
-            y: 0,
-            last: 0,
-        },
-    );
+    tree(&mut Records::new(w), 0, Drawn::default());
     say(OUT, b"</svg>\n");
 }
 
 // ---- the page
 
-fn verdict(digest: &[u8], compared: bool, same: bool) {
-    if !compared {
-        say(
+fn verdict(digest: &[u8], matches: Option<bool>) {
+    match matches {
+        None => say(
             OUT,
             b"<p class=open>Compared with nothing. It rebuilds to<br><code>",
-        );
-    } else if same {
-        say(OUT, b"<p class=good>It matches the root digest<br><code>");
-    } else {
-        say(
+        ),
+        Some(true) => say(OUT, b"<p class=good>It matches the root digest<br><code>"),
+        Some(false) => say(
             OUT,
             b"<p class=bad>It does NOT match the digest given: do not use it. It rebuilds to<br><code>",
-        );
+        ),
     }
     say_hex(OUT, digest);
     say(OUT, b"</code>\n");
@@ -333,9 +247,9 @@ text.hidden { fill: #777 } text.gap { fill: #06c; font-style: italic; font-size:
 ";
 
 // To standard output.
-pub fn page(w: &[u8], digest: &[u8], compared: bool, same: bool) {
+pub fn page(w: &[u8], digest: &[u8], matches: Option<bool>) {
     say(OUT, &HEAD);
-    verdict(digest, compared, same);
+    verdict(digest, matches);
     let c = counted(w);
     say(OUT, b"<p>");
     say_counts(OUT, c);
@@ -346,6 +260,7 @@ pub fn page(w: &[u8], digest: &[u8], compared: bool, same: bool) {
     say(OUT, b"</html>\n");
 }
 
+// How many rows the picture is made for. The bounds stay as they were, so that `html` writes what it wrote of any file.
 fn items(labels: usize, hidden: usize) -> usize {
     if 50_000 < labels {
         return labels;

@@ -1,15 +1,14 @@
 // One JSON document: a name as it can be typed in again (so that no string needs an escape), bytes in hex.
-use crate::counts::{Counts, bare, kind_at};
+use crate::counts::{Counts, bare};
 use crate::picture::say_quotable;
-use crate::records::{OUT, after_head, say_kind};
-use hash_tree::LABELED;
+use crate::records::{OUT, say_kind};
+use hash_tree::Kind;
 use text::print::{say, say_hex, say_number};
-use text::words::part;
-use witness_reader::place_after;
+use witness_reader::{Records, Shown};
 
 fn say_hex_string(bytes: &[u8]) {
     say(OUT, b"\"");
-    if bytes.len() > 0 {
+    if !bytes.is_empty() {
         say_hex(OUT, bytes);
     }
     say(OUT, b"\"");
@@ -33,46 +32,35 @@ pub fn entry(first: bool, key: &[u8], value: &[u8]) {
     say(OUT, b"}");
 }
 
-fn record(at: usize, kind: usize, bytes: &[u8]) {
-    if at > 0 {
+fn say_record(record: Shown) {
+    if record.at > 0 {
         say(OUT, b",");
     }
     say(OUT, b"\n  {\"offset\": ");
-    say_number(OUT, at);
+    say_number(OUT, record.at);
     say(OUT, b", \"kind\": \"");
-    say_kind(kind);
+    say_kind(record.kind);
     say(OUT, b"\"");
-    if kind == LABELED {
-        say(OUT, b", \"name\": ");
-        say_name_string(bytes);
-    } else if LABELED < kind {
-        say(OUT, b", \"bytes\": ");
-        say_hex_string(bytes);
+    match record.kind {
+        Kind::Labeled => {
+            say(OUT, b", \"name\": ");
+            say_name_string(record.bytes);
+        }
+        Kind::Leaf | Kind::Pruned => {
+            say(OUT, b", \"bytes\": ");
+            say_hex_string(record.bytes);
+        }
+        Kind::Empty | Kind::Fork => {}
     }
     say(OUT, b"}");
 }
 
-fn records(w: &[u8]) {
-    let mut at = 0;
-    let mut left = w.len() / 2;
-    while left > 0 {
-        if at < w.len() {
-            let next = place_after(w, at);
-            record(at, kind_at(w, at), part(w, after_head(at), next));
-            at = next;
-        }
-        left -= 1;
+fn say_verdict(matches: Option<bool>) {
+    match matches {
+        None => say(OUT, b"null"),
+        Some(true) => say(OUT, b"true"),
+        Some(false) => say(OUT, b"false"),
     }
-}
-
-fn say_verdict(compared: bool, same: bool) {
-    if !compared {
-        return say(OUT, b"null");
-    }
-    if same {
-        return say(OUT, b"true");
-    }
-    say(OUT, b"false");
 }
 
 fn say_count(name: &[u8], n: usize) {
@@ -83,11 +71,11 @@ fn say_count(name: &[u8], n: usize) {
 }
 
 // What `check` and `read` say of a witness that rebuild took, up to its records; `matches` is null where nothing was compared.
-fn head(digest: &[u8], compared: bool, same: bool, c: Counts) {
+fn head(digest: &[u8], matches: Option<bool>, c: Counts) {
     say(OUT, b"{\"rebuilds_to\": ");
     say_hex_string(digest);
     say(OUT, b", \"matches\": ");
-    say_verdict(compared, same);
+    say_verdict(matches);
     say_count(b"shown_with_value", c.values);
     say_count(b"shown_by_name", bare(c));
     say_count(b"hidden", c.hidden);
@@ -95,13 +83,15 @@ fn head(digest: &[u8], compared: bool, same: bool, c: Counts) {
 }
 
 pub fn check(digest: &[u8], same: bool, c: Counts) {
-    head(digest, true, same, c);
+    head(digest, Some(same), c);
     say(OUT, b"}\n");
 }
 
-pub fn read(w: &[u8], digest: &[u8], compared: bool, same: bool, c: Counts) {
-    head(digest, compared, same, c);
+pub fn read(w: &[u8], digest: &[u8], matches: Option<bool>, c: Counts) {
+    head(digest, matches, c);
     say(OUT, b", \"records\": [");
-    records(w);
+    for record in Records::new(w) {
+        say_record(record);
+    }
     say(OUT, b"\n]}\n");
 }

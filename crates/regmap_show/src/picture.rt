@@ -1,21 +1,15 @@
 // A picture for Graphviz: the tree above; names and hidden parts on one line below it, in their order; values under their names. Between
 // two names with nothing hidden between them stands an edge that says so.
-use crate::counts::kind_at;
-use crate::records::{OUT, after_head, say_kind};
-use hash_tree::{FORK, LABELED, LEAF, MAX_DEPTH, PRUNED};
-use text::print::{is_plain, say, say_hex, say_name, say_number};
-use text::words::{find, part};
-use witness_reader::place_after;
+use crate::counts::is_item;
+use crate::records::{OUT, say_kind};
+use hash_tree::{Kind, MAX_DEPTH};
+use text::print::{is_plain, say, say_hex, say_number};
+use text::words::part;
+use witness_reader::{Records, Shown};
 
 // Whether a name can stand between quotes as it is.
 fn is_quotable(name: &[u8]) -> bool {
-    if !is_plain(name) {
-        return false;
-    }
-    if find(name, 0, b'"') < name.len() {
-        return false;
-    }
-    find(name, 0, b'\\') == name.len()
+    is_plain(name) && !name.contains(&b'"') && !name.contains(&b'\\')
 }
 
 // A name between quotes: as it is, or `hex:` and its bytes in hex.
@@ -24,33 +18,43 @@ pub(crate) fn say_quotable(name: &[u8]) {
         return say(OUT, name);
     }
     say(OUT, b"hex:");
-    if name.len() > 0 {
+    if !name.is_empty() {
         say_hex(OUT, name);
     }
 }
 
-fn draw_bytes(kind: usize, bytes: &[u8]) {
-    say(OUT, b"\\n");
-    match kind {
-        LABELED => say_quotable(bytes),
-        LEAF => say_hex(OUT, bytes),
-        _ => say_hex(OUT, part(bytes, 0, 4)),
+// What a record has of its own, on a line below its kind.
+fn draw_bytes(record: Shown) {
+    match record.kind {
+        Kind::Empty | Kind::Fork => {}
+        Kind::Labeled => {
+            say(OUT, b"\\n");
+            say_quotable(record.bytes);
+        }
+        Kind::Leaf => {
+            say(OUT, b"\\n");
+            say_hex(OUT, record.bytes);
+        }
+        Kind::Pruned => {
+            say(OUT, b"\\n");
+            say_hex(OUT, part(record.bytes, 0, 4));
+        }
     }
 }
 
-fn draw_style(kind: usize, labeled: bool) {
-    if kind == LABELED {
-        return say(OUT, b"\", style=bold];\n");
+fn draw_style(record: Shown) {
+    match record.kind {
+        Kind::Labeled => say(OUT, b"\", style=bold];\n"),
+        Kind::Pruned => {
+            if record.labeled {
+                say(OUT, b"..\\nits value, ");
+            } else {
+                say(OUT, b"..\\nregisters, ");
+            }
+            say(OUT, b"hidden\", style=filled, fillcolor=gray80];\n");
+        }
+        _ => say(OUT, b"\"];\n"),
     }
-    if kind != PRUNED {
-        return say(OUT, b"\"];\n");
-    }
-    if labeled {
-        say(OUT, b"..\\nits value, ");
-    } else {
-        say(OUT, b"..\\nregisters, ");
-    }
-    say(OUT, b"hidden\", style=filled, fillcolor=gray80];\n");
 }
 
 fn draw_edge(from: usize, to: usize) {
@@ -60,68 +64,43 @@ fn draw_edge(from: usize, to: usize) {
     say_number(OUT, to);
 }
 
-fn draw_record(at: usize, kind: usize, labeled: bool, bytes: &[u8]) {
+fn draw_record(record: Shown) {
     say(OUT, b"  r");
-    say_number(OUT, at);
+    say_number(OUT, record.at);
     say(OUT, b" [label=\"");
-    say_kind(kind);
-    if LABELED <= kind {
-        draw_bytes(kind, bytes);
-    }
-    draw_style(kind, labeled);
+    say_kind(record.kind);
+    draw_bytes(record);
+    draw_style(record);
 }
 
-// Draws the tree at a place below its parent, and answers the place after it.
-fn tree(w: &[u8], at: usize, depth: usize, parent: usize) -> usize {
+// Draws the tree that is next, below the record that stands at its parent's place.
+fn tree(left: &mut Records, depth: usize, parent: Option<usize>) {
     if MAX_DEPTH < depth {
-        return at;
+        return;
     }
-    let kind = kind_at(w, at);
-    let next = place_after(w, at);
-    draw_record(
-        at,
-        kind,
-        kind_at(w, parent) == LABELED,
-        part(w, after_head(at), next),
-    );
-    if at != 0 {
-        draw_edge(parent, at);
+    let Some(record) = left.next() else {
+        return;
+    };
+    draw_record(record);
+    if let Some(above) = parent {
+        draw_edge(above, record.at);
         say(OUT, b";\n");
     }
-    if kind == FORK {
-        let middle = tree(w, next, depth + 1, at);
-        return tree(w, middle, depth + 1, at);
+    match record.kind {
+        Kind::Fork => {
+            tree(left, depth + 1, Some(record.at));
+            tree(left, depth + 1, Some(record.at));
+        }
+        Kind::Labeled => tree(left, depth + 1, Some(record.at)),
+        Kind::Empty | Kind::Leaf | Kind::Pruned => {}
     }
-    if kind == LABELED {
-        return tree(w, next, depth + 1, at);
-    }
-    next
 }
 
 // ---- the line of names and hidden parts
 
-// The place and kind of the last name or hidden part, if there was one, and the kind of the record before.
-#[derive(Clone, Copy)]
-struct Last {
-    any: bool,
-    at: usize,
-    kind: usize,
-    before: usize,
-}
-
-fn is_item(kind: usize, before: usize) -> bool {
-    if kind == LABELED {
-        return true;
-    }
-    kind == PRUNED && before != LABELED
-}
-
-fn draw_step(last: Last, at: usize, kind: usize) {
-    if !last.any {
-        return;
-    }
-    draw_edge(last.at, at);
-    if last.kind == LABELED && kind == LABELED {
+fn draw_step(from: Shown, to: Shown) {
+    draw_edge(from.at, to.at);
+    if from.kind == Kind::Labeled && to.kind == Kind::Labeled {
         return say(
             OUT,
             b" [style=dashed, dir=none, fontname=monospace, label=\"nothing between\"];\n",
@@ -130,39 +109,13 @@ fn draw_step(last: Last, at: usize, kind: usize) {
     say(OUT, b" [style=invis];\n");
 }
 
-fn step(last: Last, at: usize, kind: usize) -> Last {
-    if is_item(kind, last.before) {
-        draw_step(last, at, kind);
-        return Last {
-            any: true,
-            at,
-            kind,
-            before: kind,
-        };
-    }
-    Last {
-        any: last.any,
-        at: last.at,
-        kind: last.kind,
-        before: kind,
-    }
-}
-
 fn steps(w: &[u8]) {
-    let mut last = Last {
-        any: false,
-        at: 0,
-        kind: 0,
-        before: 0,
-    };
-    let mut at = 0;
-    let mut left = w.len() / 2;
-    while left > 0 {
-        if at < w.len() {
-            last = step(last, at, kind_at(w, at));
-            at = place_after(w, at);
+    let mut last = None;
+    for item in Records::new(w).filter(|record| is_item(*record)) {
+        if let Some(before) = last {
+            draw_step(before, item);
         }
-        left -= 1;
+        last = Some(item);
     }
 }
 
@@ -179,7 +132,7 @@ pub fn dot(w: &[u8], digest: &[u8], compared: bool) {
     }
     say_hex(OUT, digest);
     say(OUT, b"\";\n");
-    tree(w, 0, 1, 0);
+    tree(&mut Records::new(w), 1, None);
     say(OUT, b"  { rank=same;\n");
     steps(w);
     say(OUT, b"  }\n}\n");

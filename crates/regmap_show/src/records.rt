@@ -1,36 +1,34 @@
 // Every record on a line, in the order of the file, indented by its depth.
-use hash_tree::{FORK, LABELED, LEAF, MAX_DEPTH, Record};
+use hash_tree::{Kind, MAX_DEPTH};
 use text::print::{is_plain, say, say_hex, say_name, say_number};
-use text::words::{part, word};
-use witness_reader::{place_after, record_from};
+use text::words::part;
+use witness_reader::{Records, Shown};
 
 pub const OUT: i32 = 1;
 
 const SPACES: [u8; 128] = [b' '; 128];
 
-const KINDS: [u8; 30] = *b"Empty\0Fork\0Labeled\0Leaf\0Pruned";
-
-pub(crate) fn say_kind(kind: usize) {
-    say(OUT, word(&KINDS, kind));
+pub(crate) fn say_kind(kind: Kind) {
+    match kind {
+        Kind::Empty => say(OUT, b"Empty"),
+        Kind::Fork => say(OUT, b"Fork"),
+        Kind::Labeled => say(OUT, b"Labeled"),
+        Kind::Leaf => say(OUT, b"Leaf"),
+        Kind::Pruned => say(OUT, b"Pruned"),
+    }
 }
 
+// How many digits a number has.
 fn width(n: usize) -> usize {
-    match n {
-        0..=9 => 1,
-        10..=99 => 2,
-        100..=999 => 3,
-        1_000..=9_999 => 4,
-        10_000..=99_999 => 5,
-        _ => 6,
+    match n.checked_ilog10() {
+        Some(power) => power as usize + 1,
+        None => 1,
     }
 }
 
 // A number with spaces before it, `most` wide.
 fn say_right(n: usize, most: usize) {
-    let k = width(n);
-    if k < most {
-        say(OUT, part(&SPACES, 0, most - k));
-    }
+    say(OUT, part(&SPACES, 0, most.saturating_sub(width(n))));
     say_number(OUT, n);
 }
 
@@ -51,100 +49,95 @@ fn say_hidden(bytes: &[u8], labeled: bool) {
     say(OUT, b"  HIDDEN: one register or more");
 }
 
-fn say_bytes(kind: usize, bytes: &[u8], labeled: bool) {
-    match kind {
-        LABELED => say_name(OUT, bytes),
-        LEAF => say_leaf(bytes),
-        _ => say_hidden(bytes, labeled),
+// What a record has of its own, after a space.
+fn say_bytes(record: Shown) {
+    match record.kind {
+        Kind::Empty | Kind::Fork => {}
+        Kind::Labeled => {
+            say(OUT, b" ");
+            say_name(OUT, record.bytes);
+        }
+        Kind::Leaf => {
+            say(OUT, b" ");
+            say_leaf(record.bytes);
+        }
+        Kind::Pruned => {
+            say(OUT, b" ");
+            say_hidden(record.bytes, record.labeled);
+        }
     }
 }
 
-// A record's place, depth and kind, and whether it stands under a label.
-#[derive(Clone, Copy)]
-struct Seen {
-    at: usize,
-    depth: usize,
-    kind: usize,
-    labeled: bool,
-}
-
-fn say_record(seen: Seen, bytes: &[u8]) {
-    say_right(seen.at, 6);
-    say_right(seen.depth, 6);
-    say_right(bytes.len(), 7);
-    let deep = seen.depth;
-    if deep <= 64 {
-        say(OUT, part(&SPACES, 0, deep * 2));
+fn say_record(depth: usize, record: Shown) {
+    say_right(record.at, 6);
+    say_right(depth, 6);
+    say_right(record.bytes.len(), 7);
+    if depth <= 64 {
+        say(OUT, part(&SPACES, 0, depth * 2));
     }
-    say_kind(seen.kind);
-    if LABELED <= seen.kind {
-        say(OUT, b" ");
-        say_bytes(seen.kind, bytes, seen.labeled);
-    }
+    say_kind(record.kind);
+    say_bytes(record);
     say(OUT, b"\n");
 }
 
-const BAD: usize = usize::MAX;
+// A place that makes no sense, and why.
+#[derive(Clone, Copy)]
+struct Malformed {
+    at: usize,
+    why: &'static [u8],
+}
 
-// Shows the tree at a place, and answers the place after it; or the first place that makes no sense, said on its way out.
-fn tree(w: &[u8], at: usize, depth: usize, labeled: bool) -> usize {
+// Shows the tree that is next, up to the first place that makes no sense.
+fn tree(left: &mut Records, depth: usize) -> Result<(), Malformed> {
     if MAX_DEPTH < depth {
-        return malformed(at, b": nested more than 64 records deep\n");
+        return Err(Malformed {
+            at: left.at,
+            why: b": nested more than 64 records deep\n",
+        });
     }
-    let Record::Whole { kind, len: _ } = record_from(w, at) else {
-        return no_record(w, at);
+    let Some(record) = left.next() else {
+        return Err(no_record(left.src, left.at));
     };
-    let next = place_after(w, at);
-    let seen = Seen {
-        at,
-        depth,
-        kind,
-        labeled,
-    };
-    say_record(seen, part(w, after_head(at), next));
-    if kind == FORK {
-        let middle = tree(w, next, depth + 1, false);
-        if middle == BAD {
-            return BAD;
+    say_record(depth, record);
+    match record.kind {
+        Kind::Fork => {
+            tree(left, depth + 1)?;
+            tree(left, depth + 1)
         }
-        return tree(w, middle, depth + 1, false);
+        Kind::Labeled => tree(left, depth + 1),
+        Kind::Empty | Kind::Leaf | Kind::Pruned => Ok(()),
     }
-    if kind == LABELED {
-        return tree(w, next, depth + 1, true);
-    }
-    next
-}
-
-pub(crate) fn after_head(at: usize) -> usize {
-    if at < BAD - 2 { at + 2 } else { at }
-}
-
-fn malformed(at: usize, what: &[u8]) -> usize {
-    say_right(at, 6);
-    say(OUT, what);
-    BAD
 }
 
 // Why there is no record at a place.
-fn no_record(w: &[u8], at: usize) -> usize {
-    let head = part(w, at, after_head(at));
-    if head.len() < 2 {
-        return malformed(at, b": no record: the file ends here\n");
+fn no_record(w: &[u8], at: usize) -> Malformed {
+    let why: &'static [u8] = match part(w, at, w.len()) {
+        [] | [_] => b": no record: the file ends here\n",
+        [kind, ..] if 159 < *kind => b": no record: its kind is above 4\n",
+        _ =>
+            b": no record: its length is none that its kind may have, or the file ends within it\n",
+    };
+    Malformed { at, why }
+}
+
+// The one tree that a file is, with nothing after it.
+fn whole(w: &[u8]) -> Result<(), Malformed> {
+    let mut left = Records::new(w);
+    tree(&mut left, 1)?;
+    if left.at < w.len() {
+        return Err(Malformed {
+            at: left.at,
+            why: b": the tree ends here, and more bytes follow\n",
+        });
     }
-    if 159 < head[0] {
-        return malformed(at, b": no record: its kind is above 4\n");
-    }
-    malformed(
-        at,
-        b": no record: its length is none that its kind may have, or the file ends within it\n",
-    )
+    Ok(())
 }
 
 // The whole file, to standard output.
 pub fn read(w: &[u8]) {
     say(OUT, b"offset depth length  record\n");
-    let next = tree(w, 0, 1, false);
-    if next < w.len() {
-        malformed(next, b": the tree ends here, and more bytes follow\n");
+    if let Err(bad) = whole(w) {
+        say_right(bad.at, 6);
+        say(OUT, bad.why);
     }
 }

@@ -2,5 +2,6 @@
 #![tactic(auto)]
 
 pub mod kinds;
+pub mod line;
 pub mod map;
 pub mod says;

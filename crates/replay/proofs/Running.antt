@@ -1,18 +1,24 @@
 -- A batch of edits: one record more, and the refresh at the end.
 use mathlib.Core.Path.{◌≡◌, refl, sym, ap, subst, ◌∙◌}
 use mathlib.Core.Bool.{Bool, true, false}
+use mathlib.Core.Logic.{◌⊎◌, inl, inr}
 use mathlib.Core.List.{List, [], ◌∷◌}
-use mathlib.Core.Option.{Option, none, some}
-use Prim.Native.Nat.{ℕ, zero, suc, ◌+◌, ◌-◌, ◌≤◌, ◌<◌}
+use mathlib.Core.Option.{some}
+use Prim.Native.Nat.{ℕ, ◌+◌, ◌-◌, ◌≤◌, ◌<◌}
 use native.Mathlib.Omega.{arith}
 use lib.Dec.{eqb}
 use lib.ListN.{length, take, drop, length-take}
 use lib.Seq.{drop-drop}
+use Rattle.std.specs.Prelude.{Ok, Err, Result, ⊤}
+use Rattle.answers.specs.Answers as answers
+use denote.Enum.Bare.{sameb}
+use Rattle.runs.proofs.Testing.{clash}
+use Rattle.answers.specs.contracts.Refusal.{the_type}
 use Rattle.key_order.specs.Order.{Key}
 use Rattle.slots.specs.Bits.{Bytes}
 use Rattle.llrb.specs.Tree.{Value}
 use Rattle.store.specs.Counts.{one}
-use Rattle.store.specs.Numbers.{Full, Absent, Outcome, refused, done}
+use Rattle.store.specs.Numbers.{Refusal, Full, Absent, Outcome, refused, done, number_of}
 use Rattle.store.specs.Model.{Model, inserted, modified, deleted}
 use Rattle.store.specs.Sound.{Represents}
 use Rattle.store.specs.Encode.{encode}
@@ -23,16 +29,11 @@ use Rattle.store.specs.Replay.{Replayed, replay_answer, run_in, number_in, answe
 use Rattle.store.proofs.Encoding.{encoded}
 use Rattle.store.proofs.Calling.{insert-outcome, modify-outcome, delete-outcome}
 use Rattle.store.proofs.Replaying.{replay-model}
-use Rattle.rb_tree.specs.declared.Inserted.{Inserted}
-use Rattle.rb_tree.specs.declared.Inserted.TheVariants as insert
-use Rattle.rb_tree.specs.declared.Changed.{Changed}
-use Rattle.rb_tree.specs.declared.Changed.TheVariants as change
-use Rattle.rb_tree.specs.Stores.{Holds, Stale, HoldsStale, StaleInsert, StaleChange}
+use Rattle.rb_tree.specs.Stores.{Holds, Stale, HoldsStale, Comes, StaleInsert, StaleChange}
 use Rattle.rb_tree.proofs.Settling.{stale-of}
-use Rattle.replay.specs.declared.Edited.{Edited}
-use Rattle.replay.specs.declared.Edited.TheVariants as edited
-use Rattle.replay.specs.Records.{Head}
-use Rattle.replay.specs.Runs.{edited_number, StaleEdit}
+use Rattle.replay.specs.declared.Operation.{Operation}
+use Rattle.replay.specs.Records.{Head, number_for}
+use Rattle.replay.specs.Runs.{OfTwo, StaleEdit}
 use Rattle.replay.proofs.Reading.{head-stands, fits, readable, at-end, unsplit}
 
 -- ---- one record
@@ -41,56 +42,36 @@ unchanged : {s s' : List ℕ} {m : Model} → Stale s m → s' ≡ s → HoldsSt
 unchanged {s} {s'} {m} a e = subst (λ (z : List ℕ). HoldsStale s z m) (sym e) (record { holds = a; bytes = λ b. b })
 
 -- an outcome, with what it leaves
-did : (e : Edit) {s s' : List ℕ} {m : Model} (o : Outcome Model) {r : Edited} → edit_in e m ≡ o → HoldsStale s s' (after o m) → number_in o ≡ edited_number r → StaleEdit e s s' m r
-did e {s} {s'} {m} o {r} q h n =
+did : (e : Edit) {s s' : List ℕ} {m : Model} (o : Outcome Model) {r : Result ⊤ Refusal} → edit_in e m ≡ o → HoldsStale s s' (after o m) → number_in o ≡ answers.number_in r → OfTwo r → StaleEdit e s s' m r
+did e {s} {s'} {m} o {r} q h n w =
     record {
       holds = subst (λ (x : Outcome Model). HoldsStale s s' (after x m)) (sym q) h;
       number = ap number_in q ∙ n;
+      why = w;
     }
 
 module _ (k : Key) (p : length k ≤ 48) {s s' : List ℕ} {m : Model} (a : Stale s m) where
-  module _ (v : Value) (q : length v ≤ 64) where
-    pub insert-did : {r : Inserted} → StaleInsert k v s s' m r → r ≡ insert.Done → StaleEdit (Insert k v) s s' m edited.Done
-    insert-did w e =
-        let b = subst (StaleInsert k v s s' m) e w in
-        did (Insert k v) (done (inserted k v m)) (insert-outcome k v m p q ∙ ap (λ (t : Bool). refuse t Full (done (inserted k v m))) b.0) b.1 refl
+  -- an edit that may be refused for one reason, and what its call came to
+  comes : (e : Edit) (why : Refusal) (fails : Bool) (m' : Model) → edit_in e m ≡ refuse fails why (done m') → (why ≡ Full) ⊎ (why ≡ Absent)
+      → (r : Result ⊤ Refusal) → Comes why fails (HoldsStale s s' m') (s' ≡ s) r → StaleEdit e s s' m r
+  comes e why fails m' q o (Ok x) w = did e (done m') (q ∙ ap (λ (t : Bool). refuse t why (done m')) w.0) w.1 refl tt
+  comes e why fails m' q o (Err y) w =
+      did e (refused why) (q ∙ ap (λ (t : Bool). refuse t why (done m')) w.0) (unchanged a w.1) (ap number_of (sym w.2)) (subst (λ (z : Refusal). (z ≡ Full) ⊎ (z ≡ Absent)) (sym w.2) o)
 
-    pub insert-full : {r : Inserted} → StaleInsert k v s s' m r → r ≡ insert.Full → StaleEdit (Insert k v) s s' m edited.Full
-    insert-full w e =
-        let b = subst (StaleInsert k v s s' m) e w in
-        did (Insert k v) (refused Full) (insert-outcome k v m p q ∙ ap (λ (t : Bool). refuse t Full (done (inserted k v m))) b.0) (unchanged a b.1) refl
+  module _ (v : Value) where
+    pub inserts : length v ≤ 64 → (r : Result ⊤ Refusal) → StaleInsert k v s s' m r → StaleEdit (Insert k v) s s' m r
+    inserts q r w = comes (Insert k v) Full _ (inserted k v m) (insert-outcome k v m p q) (inl refl) r w
 
-    pub modify-did : {r : Changed} → StaleChange k s s' m (modified k v m) r → r ≡ change.Done → StaleEdit (Modify k v) s s' m edited.Done
-    modify-did w e =
-        let b = subst (StaleChange k s s' m (modified k v m)) e w in
-        did (Modify k v) (done (modified k v m)) (modify-outcome k v m p q ∙ ap (λ (t : Bool). refuse t Absent (done (modified k v m))) b.0) b.1 refl
+    pub modifies : length v ≤ 64 → (r : Result ⊤ Refusal) → StaleChange k s s' m (modified k v m) r → StaleEdit (Modify k v) s s' m r
+    modifies q r w = comes (Modify k v) Absent _ (modified k v m) (modify-outcome k v m p q) (inr refl) r w
 
-    pub modify-absent : {r : Changed} → StaleChange k s s' m (modified k v m) r → r ≡ change.Absent → StaleEdit (Modify k v) s s' m edited.Absent
-    modify-absent w e =
-        let b = subst (StaleChange k s s' m (modified k v m)) e w in
-        did (Modify k v) (refused Absent) (modify-outcome k v m p q ∙ ap (λ (t : Bool). refuse t Absent (done (modified k v m))) b.0) (unchanged a b.1) refl
+  pub deletes : (r : Result ⊤ Refusal) → StaleChange k s s' m (deleted k m) r → StaleEdit (Delete k) s s' m r
+  deletes r w = comes (Delete k) Absent _ (deleted k m) (delete-outcome k m p) (inr refl) r w
 
-  pub delete-did : {r : Changed} → StaleChange k s s' m (deleted k m) r → r ≡ change.Done → StaleEdit (Delete k) s s' m edited.Done
-  delete-did w e =
-      let b = subst (StaleChange k s s' m (deleted k m)) e w in
-      did (Delete k) (done (deleted k m)) (delete-outcome k m p ∙ ap (λ (t : Bool). refuse t Absent (done (deleted k m))) b.0) b.1 refl
-
-  pub delete-absent : {r : Changed} → StaleChange k s s' m (deleted k m) r → r ≡ change.Absent → StaleEdit (Delete k) s s' m edited.Absent
-  delete-absent w e =
-      let b = subst (StaleChange k s s' m (deleted k m)) e w in
-      did (Delete k) (refused Absent) (delete-outcome k m p ∙ ap (λ (t : Bool). refuse t Absent (done (deleted k m))) b.0) (unchanged a b.1) refl
-
--- the edit that a number names
-pub by_number : {o : ℕ} (n : ℕ) (k : Key) (v : Value) {s s' : List ℕ} {m : Model} {r : Edited} → o ≡ n → StaleEdit (edit_of n k v) s s' m r → StaleEdit (edit_of o k v) s s' m r
-by_number n k v {s} {s'} {m} {r} e w = subst (λ (x : ℕ). StaleEdit (edit_of x k v) s s' m r) (sym e) w
-
-is-delete : (o : ℕ) (k : Key) (v : Value) → (o ≡ 0 → ⊥) → (o ≡ 1 → ⊥) → edit_of o k v ≡ Delete k
-is-delete zero k v n m = absurd (n refl)
-is-delete (suc zero) k v n m = absurd (m refl)
-is-delete (suc (suc o)) k v n m = refl
-
-pub by-delete : (o : ℕ) (k : Key) (v : Value) {s s' : List ℕ} {m : Model} {r : Edited} → (o ≡ 0 → ⊥) → (o ≡ 1 → ⊥) → StaleEdit (Delete k) s s' m r → StaleEdit (edit_of o k v) s s' m r
-by-delete o k v {s} {s'} {m} {r} n l w = subst (λ (x : Edit). StaleEdit x s s' m r) (sym (is-delete o k v n l)) w
+-- the edit that an operation names
+pub by_operation : {o : Operation} (q : Operation) (k : Key) (v : Value) {s s' : List ℕ} {m : Model} {r : Result ⊤ Refusal} → o ≡ q → StaleEdit (edit_of (number_for q) k v) s s' m r
+    → StaleEdit (edit_of (number_for o) k v) s s' m r
+by_operation q k v {s} {s'} {m} {r} e w = subst (λ (x : Operation). StaleEdit (edit_of (number_for x) k v) s s' m r) (sym e) w
 
 -- ---- the record's key and value, as the slices are cut
 
@@ -155,14 +136,14 @@ less-answering : (n : ℕ) (e : Edit) (es : List Edit) (m : Model) → one (eqb 
 unfolding answering_in
 less-answering n e es m = refl
 
-module _ (log s₀ : List ℕ) {s s' : List ℕ} {at o k v : ℕ} (p : at < length log) (h : Head (drop at log) o k v) (same : length s' ≡ length s) (r : Edited)
+module _ (log s₀ : List ℕ) {s s' : List ℕ} {at o k v : ℕ} (p : at < length log) (h : Head (drop at log) o k v) (same : length s' ≡ length s) (r : Result ⊤ Refusal)
     (E : (m : Model) → Stale s m → StaleEdit (edit_of o (take ((at + 2 + k) - (at + 2)) (drop (at + 2) log)) (take ((at + 2 + k + v) - (at + 2 + k)) (drop (at + 2 + k) log))) s s' m r)
   where
     did-first : (m : Model) → Stale s m → StaleEdit (first_edit (drop at log)) s s' m r
     did-first m a = subst (λ (e : Edit). StaleEdit e s s' m r) (edit-cut log at h) (E m a)
 
     onward : {full absent : ℕ} (m₀ : Model) (es₀ : List Edit) → Halfway m₀ es₀ log s₀ s at full absent
-        → Halfway m₀ es₀ log s₀ s' (at + 2 + k + v) (full + one (eqb (edited_number r) 5)) (absent + one (eqb (edited_number r) 7))
+        → Halfway m₀ es₀ log s₀ s' (at + 2 + k + v) (full + one (eqb (answers.number_in r) 5)) (absent + one (eqb (answers.number_in r) 7))
     onward {full} {absent} m₀ es₀ w =
         let d = did-first w.model w.stale in
         let u = unsplit (first_edit (drop at log)) (read_log (drop (at + 2 + k + v) log)) w.edits (sym (readable log at p h) ∙ w.left) in
@@ -179,15 +160,15 @@ module _ (log s₀ : List ℕ) {s s' : List ℕ} {at o k v : ℕ} (p : at < leng
         }
       where
         count : (x c z : ℕ) → c + answering_in x w.edits w.model ≡ z → {ds : List Edit} → w.edits ≡ first_edit (drop at log) ∷ ds
-            → number_in (edit_in (first_edit (drop at log)) w.model) ≡ edited_number r
-            → c + one (eqb (edited_number r) x) + answering_in x ds (after (edit_in (first_edit (drop at log)) w.model) w.model) ≡ z
+            → number_in (edit_in (first_edit (drop at log)) w.model) ≡ answers.number_in r
+            → c + one (eqb (answers.number_in r) x) + answering_in x ds (after (edit_in (first_edit (drop at log)) w.model) w.model) ≡ z
         count x c z q {ds} u n =
             let l = less-answering x (first_edit (drop at log)) ds w.model in
             let y = ap (λ (es : List Edit). answering_in x es w.model) u in
             let i = ap (λ (t : ℕ). one (eqb t x)) n in
             omega arith
 
-    pub one_more : {full absent : ℕ} → Runs log s₀ s at full absent → Runs log s₀ s' (at + 2 + k + v) (full + one (eqb (edited_number r) 5)) (absent + one (eqb (edited_number r) 7))
+    pub one_more : {full absent : ℕ} → Runs log s₀ s at full absent → Runs log s₀ s' (at + 2 + k + v) (full + one (eqb (answers.number_in r) 5)) (absent + one (eqb (answers.number_in r) 7))
     one_more {full} {absent} w =
         record {
           within = fits log at p h;
@@ -201,18 +182,21 @@ module _ (log s₀ : List ℕ) {s s' : List ℕ} {at o k v : ℕ} (p : at < leng
         small true = omega arith
         small false = omega arith
 
-        most : (x : ℕ) → one (eqb (edited_number r) x) ≤ 1
-        most x = small (eqb (edited_number r) x)
+        most : (x : ℕ) → one (eqb (answers.number_in r) x) ≤ 1
+        most x = small (eqb (answers.number_in r) x)
 
--- a record that can be read is never refused here
-pub never : {log s₀ s : List ℕ} {at full absent : ℕ} {m₀ : Model} {es₀ : List Edit} → Halfway m₀ es₀ log s₀ s at full absent → read_log (drop at log) ≡ none → ⊥
-never w e =
-    let z : ◌≡◌ {A = Option (List Edit)} none (some w.edits) = sym e ∙ w.left in
-    let y : ◌≡◌ {A = ℕ} 0 1 = cc in omega arith
+-- which of the two refusals it is
+pub is-full : {b : Bool} {r : Refusal} → OfTwo (Err r) → b ≡ true → b ≡ sameb the_type r Full → r ≡ Full
+is-full (inl e) w q = e
+is-full (inr e) w q = absurd (clash w (q ∙ ap (λ (x : Refusal). sameb the_type x Full) e))
+
+pub is-absent : {b : Bool} {r : Refusal} → OfTwo (Err r) → b ≡ false → b ≡ sameb the_type r Full → r ≡ Absent
+is-absent (inl e) w q = absurd (clash (q ∙ ap (λ (x : Refusal). sameb the_type x Full) e) w)
+is-absent (inr e) w q = e
 
 -- by the answer: nothing counted, one 5 more, one 7 more
-pub counted-as : {log s₀ s : List ℕ} {at : ℕ} (f a : ℕ) {r : Edited} (q : Edited) → r ≡ q → {f' a' : ℕ} → f + one (eqb (edited_number q) 5) ≡ f' → a + one (eqb (edited_number q) 7) ≡ a'
-    → Runs log s₀ s at (f + one (eqb (edited_number r) 5)) (a + one (eqb (edited_number r) 7)) → Runs log s₀ s at f' a'
+pub counted-as : {log s₀ s : List ℕ} {at : ℕ} (f a : ℕ) {r : Result ⊤ Refusal} (q : Result ⊤ Refusal) → r ≡ q → {f' a' : ℕ} → f + one (eqb (answers.number_in q) 5) ≡ f' → a + one (eqb (answers.number_in q) 7) ≡ a'
+    → Runs log s₀ s at (f + one (eqb (answers.number_in r) 5)) (a + one (eqb (answers.number_in r) 7)) → Runs log s₀ s at f' a'
 counted-as f a q e x y w = rw (← x, ← y, ← e) w
 
 end_is : {s' : List ℕ} (m : Model) (full absent : ℕ) → s' ≡ encode m

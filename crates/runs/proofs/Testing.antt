@@ -7,10 +7,9 @@ use native.Mathlib.Numerals.{add-one}
 use native.Mathlib.Omega.{arith}
 use borrow.Author.Tests.{eqb-true, eqb-false}
 use lib.Dec.{eqb}
-use lib.ListN.{length, get_or, drop, length-drop}
-use lib.Seq.{take-suc, get_or-drop}
-use Rattle.runs.specs.Runs.{part, zeros, Decides}
-use Rattle.runs.proofs.Runs.{part_length}
+use lib.ListN.{length, get_or, take}
+use lib.Seq.{take-suc, take_all}
+use Rattle.runs.specs.Runs.{zeros, Decides}
 
 -- ---- decisions
 
@@ -39,10 +38,9 @@ sum-append : (x y : List ℕ) → sum_of (x ++ y) ≡ sum_of x + sum_of y
 sum-append [] y = sym (omega arith)
 sum-append (a ∷ x) y = ap (λ (n : ℕ). a + n) (sum-append x y) ∙ omega arith
 
-pub sum-next : (s : List ℕ) (a i : ℕ) → a + i < length s → sum_of (part a i s) + get_or s (a + i) 0 ≡ sum_of (part a (i + 1) s)
-sum-next s a i p =
-    let more : part a (i + 1) s ≡ part a i s ++ (get_or s (a + i) 0 ∷ []) = rw add-one (take-suc (drop a s) i 0 (omega (arith, length-drop a s)) ∙ ap (λ (v : ℕ). part a i s ++ (v ∷ [])) (get_or-drop a s i 0)) in
-    sym (ap sum_of more ∙ sum-append (part a i s) (get_or s (a + i) 0 ∷ []) ∙ omega arith)
+pub sum-next : (xs : List ℕ) (i : ℕ) → i < length xs → sum_of (take (i + 1) xs) ≡ sum_of (take i xs) + get_or xs i 0
+sum-next xs i p =
+    rw (add-one, take-suc xs i 0 p) (sum-append (take i xs) (get_or xs i 0 ∷ []) ∙ omega arith)
 
 sum_zeros : (n : ℕ) → sum_of (zeros n) ≡ 0
 unfolding zeros
@@ -54,12 +52,12 @@ unfolding zeros
 zeros-sum [] e = refl
 zeros-sum (x ∷ xs) e = let z : x ≡ 0 = omega arith in let r = zeros-sum xs (omega arith) in λ i. z i ∷ r i
 
-pub zero_test : (s : List ℕ) (a n i sum : ℕ) → a + n ≤ length s → i ≡ n → sum ≡ sum_of (part a i s) → Decides (eqb sum 0) (part a n s ≡ zeros n)
-zero_test s a n i sum p q e = go (eqb sum 0) refl
+pub zero_test : (xs : List ℕ) (i n sum : ℕ) → length xs ≡ n → length xs ≤ i → sum ≡ sum_of (take i xs) → Decides (eqb sum 0) (xs ≡ zeros n)
+zero_test xs i n sum q o e = go (eqb sum 0) refl
   where
-    l : sum ≡ sum_of (part a n s)
-    l = e ∙ ap (λ (k : ℕ). sum_of (part a k s)) q
+    l : sum ≡ sum_of xs
+    l = e ∙ ap sum_of (take_all i xs o)
 
-    go : (b : Bool) → eqb sum 0 ≡ b → Decides b (part a n s ≡ zeros n)
-    go true h = zeros-sum (part a n s) (sym l ∙ eqb-true sum 0 h) ∙ ap zeros (part_length a n s p)
+    go : (b : Bool) → eqb sum 0 ≡ b → Decides b (xs ≡ zeros n)
+    go true h = zeros-sum xs (sym l ∙ eqb-true sum 0 h) ∙ ap zeros q
     go false h = λ z. eqb-false sum 0 h (l ∙ ap sum_of z ∙ sum_zeros n)

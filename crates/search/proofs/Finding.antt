@@ -7,8 +7,7 @@ use Prim.Native.Nat.{ℕ, ◌≤◌}
 use lib.ListN.{length}
 use borrow.Author.Tests.{le-ltb}
 use Rattle.key_order.specs.Order.{Key, cmp, is_prefix_of}
-use Rattle.slots.specs.declared.Head.{Head}
-use Rattle.slots.specs.Layout.{header, slot, count_of, head_of, key_at, value_at}
+use Rattle.slots.specs.Layout.{header}
 use Rattle.llrb.specs.Tree.{Entry, Tree, nil, node, get}
 use Rattle.llrb.specs.Delete.{least}
 use Rattle.llrb.specs.Iterate.{first_entry, or_entry, next_entry}
@@ -22,10 +21,8 @@ use Rattle.store.specs.Sound.{Represents, Sound}
 use Rattle.store.specs.Answers.{found}
 use Rattle.store.specs.Calls.{entry_or, get_in, first_in, next_in, get_answer, first_entry_answer, next_entry_answer}
 use Rattle.store.proofs.Decoding.{on-sound}
-use Rattle.search.specs.declared.Found.{Found}
-use Rattle.search.specs.declared.Found.TheVariants.{At}
+use Rattle.std.specs.Prelude as code
 use Rattle.search.specs.declared.Place.{Place}
-use Rattle.search.specs.declared.Place.TheVariants as place
 use Rattle.search.specs.Search.{Each, Lies, HasTree, found_slot, Stored, OfEntry, OfBound, FoundIn, place_of, answer_of}
 use Rattle.search.proofs.Lying.{all-stored, represents-lies}
 
@@ -105,11 +102,6 @@ place_found : (s : List ℕ) (o : Option Entry) → OfEntry (Stored s) o → ans
 place_found s none a = refl
 place_found s (some e) a = rw (a.key_length, a.value_length)
 
--- the place from what the code reads
-pub read-place : (s : List ℕ) {i k v : ℕ} {h : Head} {f : Found} → f ≡ At i → h ≡ head_of (slot s i) (count_of s i) → k ≡ key_at (length s) i → v ≡ value_at (length s) i
-    → place.At k h.key_length v h.value_length ≡ place_of s f
-read-place s ef eh ek ev = rw (ef, eh, ek, ev)
-
 module _ {s : List ℕ} {m : Model} (a : Represents s m) where
   pub get-answer : (k : Key) → length k ≤ 48 → found s (entry_or Absent (get k m.tree)) ≡ get_answer k s
   unfolding get_answer get_in
@@ -132,10 +124,10 @@ module _ {s : List ℕ} (p : Sound s) {x : ℕ} (ex : x ≡ (header s).root) whe
   pub root_in : HasTree s x
   root_in = (p.0.tree, at-hand)
 
-  module _ (F : Tree → Option Entry) (each : (t : Tree) → Each (Stored s) t → OfEntry (Stored s) (F t)) {f : Found} (q : (t : Tree) → Lies s x t → f ≡ found_slot (F t)) where
+  module _ (F : Tree → Option Entry) (each : (t : Tree) → Each (Stored s) t → OfEntry (Stored s) (F t)) {f : code.Option ℕ} (q : (t : Tree) → Lies s x t → f ≡ found_slot (F t)) where
     pub found_in : FoundIn s f
     found_in = rw (q p.0.tree at-hand) (stored-in s (F p.0.tree) (each p.0.tree (all-stored p.0.tree at-hand)))
 
-    pub placed : {r : Place} → r ≡ place_of s f → answer_of r ≡ found s (entry_or Absent (F p.0.tree))
+    pub placed : {r : code.Option Place} → r ≡ place_of s f → answer_of r ≡ found s (entry_or Absent (F p.0.tree))
     placed e =
         ap answer_of (e ∙ ap (place_of s) (q p.0.tree at-hand)) ∙ place_found s (F p.0.tree) (each p.0.tree (all-stored p.0.tree at-hand))

@@ -113,3 +113,7 @@ stepped {m} {S} {k} {w} {w'} {s} {s'} t d b h e f =
 pub lasted : {m : List ℕ} {S : Eight} {k w : List ℕ} {s s' : Eight} (t : ℕ) → Worked m S w s 48 t → 48 ≤ t → t < 64 → k ≡ K
     → s' ≡ Round (get_or k t 0) (get_or w (t % 16) 0) s → Worked m S w s' 48 (suc t)
 lasted {m} {S} {k} {w} {s} {s'} t d a b h e = record { ring = d.ring; state = used m S k w s s' 48 t d a (omega arith) h e }
+
+-- the same round by another form of its number
+pub at_round : {m : List ℕ} {S : Eight} {w : List ℕ} {s : Eight} {t : ℕ} (n : ℕ) → n ≡ t → Worked m S w s t t → Worked m S w s n n
+at_round n e d = rw e d

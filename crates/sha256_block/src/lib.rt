@@ -1,18 +1,16 @@
 // FIPS 180-4, section 6.2.2: what one block does to the hash value. Sixteen words of the schedule are kept and worked over.
 #![tactic(auto)]
 
-ghost use Rattle.std.specs.Prelude.{◌≡◌, ℕ, suc, ◌<◌, ◌≤◌, List, length};
+ghost use Rattle.std.specs.Prelude.{◌≡◌, ℕ, suc, ◌+◌, ◌<◌, ◌≤◌, List, length};
 ghost use Rattle.sha256_words.specs.Words.{ADD, σ₀, σ₁};
-ghost use Rattle.sha256_words.specs.Constants.{K as constants};
 ghost use Rattle.sha256_block.specs.Rounds.{Round, Rounds, block_words, schedule, plus, Compress};
 ghost use Rattle.sha256_block.specs.Ring.{Worked};
 ghost use Rattle.sha256_block.specs.declared.Eight.{Eight};
 
 use sha256_words::{big_sigma0, big_sigma1, ch, maj, small_sigma0, small_sigma1, word_at};
-use std::num::wrapping_add_u32;
 
 // Section 4.2.2.
-const K: [u32; 64] = [
+static K: [u32; 64] = [
     0x428a_2f98,
     0x7137_4491,
     0xb5c0_fbcf,
@@ -82,8 +80,10 @@ const K: [u32; 64] = [
 fn next_word(w2: u32, w7: u32, w15: u32, w16: u32) -> u32
     ensures { result ≡ ADD (ADD (ADD (σ₁ w2) w7) (σ₀ w15)) w16 }
 {
-    let x = wrapping_add_u32(small_sigma1(w2), w7);
-    wrapping_add_u32(wrapping_add_u32(x, small_sigma0(w15)), w16)
+    small_sigma1(w2)
+        .wrapping_add(w7)
+        .wrapping_add(small_sigma0(w15))
+        .wrapping_add(w16)
 }
 
 // The words of a block.
@@ -92,10 +92,8 @@ fn words(block: &[u8]) -> [u32; 16]
     ensures { result ≡ block_words 16 block.now }
 {
     let mut w = [0u32; 16];
-    let mut t: usize = 0;
-    while t < 16 {
+    for t in 0..16 {
         w[t] = word_at(block, 4 * t);
-        t += 1;
     }
     w
 }
@@ -117,16 +115,19 @@ impl Eight {
     fn round(self, k: u32, w: u32) -> Self
         ensures { result ≡ Round k w self }
     {
-        let s1 = wrapping_add_u32(self.h, big_sigma1(self.e));
-        let s2 = wrapping_add_u32(s1, ch(self.e, self.f, self.g));
-        let t1 = wrapping_add_u32(wrapping_add_u32(s2, k), w);
-        let t2 = wrapping_add_u32(big_sigma0(self.a), maj(self.a, self.b, self.c));
+        let t1 = self
+            .h
+            .wrapping_add(big_sigma1(self.e))
+            .wrapping_add(ch(self.e, self.f, self.g))
+            .wrapping_add(k)
+            .wrapping_add(w);
+        let t2 = big_sigma0(self.a).wrapping_add(maj(self.a, self.b, self.c));
         Self {
-            a: wrapping_add_u32(t1, t2),
+            a: t1.wrapping_add(t2),
             b: self.a,
             c: self.b,
             d: self.c,
-            e: wrapping_add_u32(self.d, t1),
+            e: self.d.wrapping_add(t1),
             f: self.e,
             g: self.f,
             h: self.g,
@@ -134,11 +135,11 @@ impl Eight {
     }
 
     // Round t; its word then gives way to the one sixteen after it.
-    fn step(self, k: &[u32; 64], w: &mut [u32; 16], t: usize) -> Self
+    fn step(self, w: &mut [u32; 16], t: usize) -> Self
         requires { t < 48 }
-        ensures { (m : List ℕ) (S : Eight) → k.now ≡ constants → Worked m S w.old self t t → Worked m S w.new result (suc t) (suc t) }
+        ensures { (m : List ℕ) (S : Eight) → Worked m S w.old self t t → Worked m S w.new result (suc t) (suc t) }
     {
-        let s = self.round(k[t], w[t % 16]);
+        let s = self.round(K[t], w[t % 16]);
         w[t % 16] = next_word(
             w[(t + 14) % 16],
             w[(t + 9) % 16],
@@ -148,140 +149,82 @@ impl Eight {
         s
     }
 
-    // Rounds 0 to 15. The places are written out, so that what is compiled has the constants in its code and copies no table.
-    fn first(self, k: &[u32; 64], w: &mut [u32; 16]) -> Self
-        ensures { (m : List ℕ) (S : Eight) → k.now ≡ constants → Worked m S w.old self 0 0 → Worked m S w.new result 16 16 }
-    {
-        let mut s = self;
-        s = s.step(k, w, 0);
-        s = s.step(k, w, 1);
-        s = s.step(k, w, 2);
-        s = s.step(k, w, 3);
-        s = s.step(k, w, 4);
-        s = s.step(k, w, 5);
-        s = s.step(k, w, 6);
-        s = s.step(k, w, 7);
-        s = s.step(k, w, 8);
-        s = s.step(k, w, 9);
-        s = s.step(k, w, 10);
-        s = s.step(k, w, 11);
-        s = s.step(k, w, 12);
-        s = s.step(k, w, 13);
-        s = s.step(k, w, 14);
-        s = s.step(k, w, 15);
-        s
-    }
-
-    // Rounds 16 to 31.
-    fn second(self, k: &[u32; 64], w: &mut [u32; 16]) -> Self
-        ensures { (m : List ℕ) (S : Eight) → k.now ≡ constants → Worked m S w.old self 16 16 → Worked m S w.new result 32 32 }
-    {
-        let mut s = self;
-        s = s.step(k, w, 16);
-        s = s.step(k, w, 17);
-        s = s.step(k, w, 18);
-        s = s.step(k, w, 19);
-        s = s.step(k, w, 20);
-        s = s.step(k, w, 21);
-        s = s.step(k, w, 22);
-        s = s.step(k, w, 23);
-        s = s.step(k, w, 24);
-        s = s.step(k, w, 25);
-        s = s.step(k, w, 26);
-        s = s.step(k, w, 27);
-        s = s.step(k, w, 28);
-        s = s.step(k, w, 29);
-        s = s.step(k, w, 30);
-        s = s.step(k, w, 31);
-        s
-    }
-
-    // Rounds 32 to 47.
-    fn third(self, k: &[u32; 64], w: &mut [u32; 16]) -> Self
-        ensures { (m : List ℕ) (S : Eight) → k.now ≡ constants → Worked m S w.old self 32 32 → Worked m S w.new result 48 48 }
-    {
-        let mut s = self;
-        s = s.step(k, w, 32);
-        s = s.step(k, w, 33);
-        s = s.step(k, w, 34);
-        s = s.step(k, w, 35);
-        s = s.step(k, w, 36);
-        s = s.step(k, w, 37);
-        s = s.step(k, w, 38);
-        s = s.step(k, w, 39);
-        s = s.step(k, w, 40);
-        s = s.step(k, w, 41);
-        s = s.step(k, w, 42);
-        s = s.step(k, w, 43);
-        s = s.step(k, w, 44);
-        s = s.step(k, w, 45);
-        s = s.step(k, w, 46);
-        s = s.step(k, w, 47);
-        s
-    }
-
     // Round t of the last sixteen, whose word stays.
-    fn last(self, k: &[u32; 64], w: &[u32; 16], t: usize) -> Self
+    fn last(self, w: &[u32; 16], t: usize) -> Self
         requires { (48 ≤ t) × (t < 64) }
-        ensures { (m : List ℕ) (S : Eight) → k.now ≡ constants → Worked m S w.now self 48 t → Worked m S w.now result 48 (suc t) }
+        ensures { (m : List ℕ) (S : Eight) → Worked m S w.now self 48 t → Worked m S w.now result 48 (suc t) }
     {
-        self.round(k[t], w[t % 16])
+        self.round(K[t], w[t % 16])
     }
 
-    // Rounds 48 to 63.
-    fn fourth(self, k: &[u32; 64], w: &[u32; 16]) -> Self
-        ensures { (m : List ℕ) (S : Eight) → k.now ≡ constants → Worked m S w.now self 48 48 → Worked m S w.now result 48 64 }
+    // Rounds T to T + 15, written out: a loop over them is a seventh slower (bench/sha256.sh).
+    fn sixteen<const T: usize>(self, w: &mut [u32; 16]) -> Self
+        requires { T ≤ 32 }
+        ensures { (m : List ℕ) (S : Eight) → Worked m S w.old self T T → Worked m S w.new result (T + 16) (T + 16) }
     {
-        let mut s = self;
-        s = s.last(k, w, 48);
-        s = s.last(k, w, 49);
-        s = s.last(k, w, 50);
-        s = s.last(k, w, 51);
-        s = s.last(k, w, 52);
-        s = s.last(k, w, 53);
-        s = s.last(k, w, 54);
-        s = s.last(k, w, 55);
-        s = s.last(k, w, 56);
-        s = s.last(k, w, 57);
-        s = s.last(k, w, 58);
-        s = s.last(k, w, 59);
-        s = s.last(k, w, 60);
-        s = s.last(k, w, 61);
-        s = s.last(k, w, 62);
-        s = s.last(k, w, 63);
-        s
+        self.step(w, T)
+            .step(w, T + 1)
+            .step(w, T + 2)
+            .step(w, T + 3)
+            .step(w, T + 4)
+            .step(w, T + 5)
+            .step(w, T + 6)
+            .step(w, T + 7)
+            .step(w, T + 8)
+            .step(w, T + 9)
+            .step(w, T + 10)
+            .step(w, T + 11)
+            .step(w, T + 12)
+            .step(w, T + 13)
+            .step(w, T + 14)
+            .step(w, T + 15)
+    }
+
+    // Rounds 48 to 63, written out likewise.
+    fn last_sixteen(self, w: &[u32; 16]) -> Self
+        ensures { (m : List ℕ) (S : Eight) → Worked m S w.now self 48 48 → Worked m S w.now result 48 64 }
+    {
+        self.last(w, 48)
+            .last(w, 49)
+            .last(w, 50)
+            .last(w, 51)
+            .last(w, 52)
+            .last(w, 53)
+            .last(w, 54)
+            .last(w, 55)
+            .last(w, 56)
+            .last(w, 57)
+            .last(w, 58)
+            .last(w, 59)
+            .last(w, 60)
+            .last(w, 61)
+            .last(w, 62)
+            .last(w, 63)
     }
 
     // The rounds of the schedule that begins with the words m.
-    fn all(self, k: &[u32; 64], m: [u32; 16]) -> Self
-        ensures { k.now ≡ constants → result ≡ Rounds 64 (schedule 48 m) self }
-    {
-        let mut w = m;
-        let a = self.first(k, &mut w);
-        let b = a.second(k, &mut w);
-        let c = b.third(k, &mut w);
-        c.fourth(k, &w)
-    }
-
     fn rounds(self, m: [u32; 16]) -> Self
         ensures { result ≡ Rounds 64 (schedule 48 m) self }
     {
-        let k = K;
-        self.all(&k, m)
+        let mut w = m;
+        self.sixteen::<0>(&mut w)
+            .sixteen::<16>(&mut w)
+            .sixteen::<32>(&mut w)
+            .last_sixteen(&w)
     }
 
     fn plus(self, s: Eight) -> Self
         ensures { result ≡ plus self s }
     {
         Self {
-            a: wrapping_add_u32(self.a, s.a),
-            b: wrapping_add_u32(self.b, s.b),
-            c: wrapping_add_u32(self.c, s.c),
-            d: wrapping_add_u32(self.d, s.d),
-            e: wrapping_add_u32(self.e, s.e),
-            f: wrapping_add_u32(self.f, s.f),
-            g: wrapping_add_u32(self.g, s.g),
-            h: wrapping_add_u32(self.h, s.h),
+            a: self.a.wrapping_add(s.a),
+            b: self.b.wrapping_add(s.b),
+            c: self.c.wrapping_add(s.c),
+            d: self.d.wrapping_add(s.d),
+            e: self.e.wrapping_add(s.e),
+            f: self.f.wrapping_add(s.f),
+            g: self.g.wrapping_add(s.g),
+            h: self.h.wrapping_add(s.h),
         }
     }
 

@@ -1,5 +1,5 @@
 -- The tests of the code: zeros by their sum, padding, the layout of an entry's slot and of a free one.
-use mathlib.Core.Path.{◌≡◌, sym, ap, subst, ◌∙◌}
+use mathlib.Core.Path.{◌≡◌, refl, sym, ap, subst, ◌∙◌}
 use mathlib.Core.Bool.{Bool, true, false}
 use mathlib.Core.List.{List, ◌++◌}
 use Prim.Native.Nat.{ℕ, ◌+◌, ◌-◌, ◌≤◌}
@@ -7,11 +7,11 @@ use native.Mathlib.Omega.{arith}
 use lib.ListN.{length, take, drop, length-take, length-drop, take-append-drop}
 use lib.Seq.{take-add, drop_at, drop-drop, length-take-le}
 use Rattle.slots.specs.declared.Head.{Head}
-use Rattle.slots.specs.Layout.{HasSlot, key_at, value_at, digest_at, place, room, Slot, slot, Mark, count_of, digest_of, key_of, value_of, IsEntry, IsFree, head_of}
+use Rattle.slots.specs.Layout.{HasSlot, key_at, value_at, digest_at, place, room, Slot, slot, count_of, digest_of, key_of, value_of, IsEntry, IsFree, head_of}
 use Rattle.runs.specs.Runs.{part, zeros, padded, Decides}
 use Rattle.runs.proofs.Runs.{part_length}
 use Rattle.slots.proofs.Lenses.{slot-fits}
-use Rattle.runs.proofs.Testing.{decides-via}
+use Rattle.runs.proofs.Testing.{clash, decides-via}
 
 -- ---- padding
 
@@ -36,21 +36,22 @@ tail-part s a m n p q =
     ∙ drop_at (take n (drop a s)) (take (m - n) (drop n (drop a s))) n (length-take-le n (drop a s) (omega (arith, length-drop a s)))
     ∙ ap (take (m - n)) (drop-drop n a s))
 
-module _ (s : List ℕ) (i a n : ℕ) (b : Bool) where
-  padded-by : (m : ℕ) → a + m ≤ length s → n ≤ m → Decides b (part (a + n) (m - n) s ≡ zeros (m - n)) → Decides b (part a m s ≡ padded m (take n (part a m s)))
+module _ (s : List ℕ) (a n : ℕ) (b : Bool) where
+  pub padded-by : (m : ℕ) → a + m ≤ length s → n ≤ m → Decides b (part (a + n) (m - n) s ≡ zeros (m - n)) → Decides b (part a m s ≡ padded m (take n (part a m s)))
   padded-by m p q d =
       decides-via b
       (λ z. pad-of (part a m s) m n (part_length a m s p) q (sym (tail-part s a m n p q) ∙ z))
       (λ z. tail-part s a m n p q ∙ of-pad (part a m s) m n (part_length a m s p) q z)
       d
 
-  pub key-padded-by : a ≡ key_at (length s) i → a + 48 ≤ length s → n ≤ 48 → Decides b (part (a + n) (48 - n) s ≡ zeros (48 - n)) → Decides b ((slot s i).key_room ≡ padded 48 (take n (slot s i).key_room))
-  unfolding slot room place
-  key-padded-by e p q d = subst (λ (k : ℕ). Decides b (part k 48 s ≡ padded 48 (take n (part k 48 s)))) e (padded-by 48 p q d)
+  -- the room that a slot has there
+  pub room-padded : (m : ℕ) {r : List ℕ} → part a m s ≡ r → Decides b (part a m s ≡ padded m (take n (part a m s))) → Decides b (r ≡ padded m (take n r))
+  room-padded m e = subst (λ (x : List ℕ). Decides b (x ≡ padded m (take n x))) e
 
-  pub value-padded-by : a ≡ value_at (length s) i → a + 64 ≤ length s → n ≤ 64 → Decides b (part (a + n) (64 - n) s ≡ zeros (64 - n)) → Decides b ((slot s i).value_room ≡ padded 64 (take n (slot s i).value_room))
-  unfolding slot room place
-  value-padded-by e p q d = subst (λ (k : ℕ). Decides b (part k 64 s ≡ padded 64 (take n (part k 64 s)))) e (padded-by 64 p q d)
+-- a test that failed
+pub refuses : {P : Type 0} (b : Bool) → b ≡ false → (P → ⊥) → Decides b P
+refuses true e n = absurd (clash refl e)
+refuses false e n = n
 
 -- ---- an entry's slot
 
@@ -113,24 +114,6 @@ module _ (s : List ℕ) (i : ℕ) where
   digest-at-is a e = ap (λ (k : ℕ). part k 32 s) e
 
   module _ (h : Head) (e : h ≡ head_of (slot s i) (count_of s i)) where
-    pub free-live : IsFree s i → h.live ≡ false
-    free-live q = ap (λ (z : Head). z.live) e ∙ ap (λ (v : Slot). v.live) q.0
-
-    pub free-red : IsFree s i → h.red ≡ false
-    free-red q = ap (λ (z : Head). z.red) e ∙ ap (λ (v : Slot). v.red) q.0
-
-    pub free-right : IsFree s i → h.right ≡ 0
-    free-right q = ap (λ (z : Head). z.right) e ∙ ap (λ (v : Slot). v.right) q.0
-
-    pub free-key : IsFree s i → h.key_length ≡ 0
-    free-key q = ap (λ (z : Head). z.key_length) e ∙ ap (λ (v : Slot). v.key_length) q.0
-
-    pub free-value : IsFree s i → h.value_length ≡ 0
-    free-value q = ap (λ (z : Head). z.value_length) e ∙ ap (λ (v : Slot). v.value_length) q.0
-
-    pub free-plain : IsFree s i → h.count ≡ 0
-    free-plain q = ap (λ (z : Head). z.count) e ∙ ap (λ (m : Mark). m.count) q.1
-
     pub free-by : h.live ≡ false → h.red ≡ false → h.right ≡ 0 → h.key_length ≡ 0 → h.value_length ≡ 0 → h.count ≡ 0 → (slot s i).key_room ≡ zeros 48 → (slot s i).value_room ≡ zeros 64 → digest_of s i ≡ zeros 32 → IsFree s i
     free-by a b c k v z ek ev ed =
         let ll = sym (ap (λ (y : Head). y.live) e) ∙ a in

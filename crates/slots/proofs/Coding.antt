@@ -1,6 +1,6 @@
 -- What the code's numbers and stores are in terms of the layout.
 use mathlib.Core.Path.{◌≡◌, refl, sym, ap, subst, ◌∙◌}
-use mathlib.Core.Bool.{Bool, true}
+use mathlib.Core.Bool.{Bool, true, false}
 use mathlib.Core.List.{List}
 use Prim.Native.Nat.{ℕ, ◌+◌, ◌*◌, ◌/◌, ◌%◌, ◌≤◌, ◌<◌}
 use native.Mathlib.Nat.{div-one}
@@ -8,6 +8,7 @@ use native.Mathlib.Omega.{arith}
 use lib.Dec.{eqb, lit<}
 use lib.ListN.{length, take}
 use lib.Seq.{sets}
+use Rattle.std.specs.Int.{from_bool}
 use Rattle.runs.specs.Bits.{joined, fields, recut, octets, bit}
 use Rattle.slots.specs.declared.Header.{Header}
 use Rattle.slots.specs.declared.Head.{Head}
@@ -61,6 +62,11 @@ pub head-fits : (s : List ℕ) {i : ℕ} {h : Head} → HasSlot (length s) i →
 head-fits s {i} p e =
     let f = slot-fits s i p in
     subst HeadFits (sym e) (record { left = f.left; right = f.right; key_length = f.key_length; value_length = f.value_length; count = count_fits s i })
+
+-- a bool as the code makes a number of it
+pub bit-is : (b : Bool) {n : ℕ} → n ≡ from_bool b → n ≡ bit b
+bit-is true e = e
+bit-is false e = e
 
 -- what `set_head` and `set_header` write
 pub head-set : (s t : List ℕ) (i a b0 b1 : ℕ) (h : Head) → HasSlot (length s) i → a ≡ head_at (length s) i → b0 ≡ bit h.live → b1 ≡ bit h.red

@@ -18,7 +18,7 @@ const HEADER_LENGTH: usize = 8;
 const SLOT_LENGTH: usize = 150;
 
 // The header's fields.
-#[derive(Clone, Copy)]
+#[derive(Clone, Copy, Debug, PartialEq, Eq)]
 pub struct Header {
     pub edition: usize,
     pub capacity: usize,
@@ -29,7 +29,7 @@ pub struct Header {
 }
 
 // The head of a slot.
-#[derive(Clone, Copy)]
+#[derive(Clone, Copy, Debug, PartialEq, Eq)]
 pub struct Head {
     pub live: bool,
     pub red: bool,
@@ -48,11 +48,12 @@ pub fn store_length(capacity: usize) -> usize
     HEADER_LENGTH + SLOT_LENGTH * capacity
 }
 
+// A slot goes by its number, as the links of a tree do: they outlive the writes to other slots, which a struct of the lent store could not.
 // ---- where the parts of slot `i` lie in a store of `n` bytes
 
 fn head_at(n: usize, i: usize) -> usize
     requires { HasSlot n i }
-    ensures { (result ≡ head_at n i) × (result + 6 ≤ n) }
+    ensures { (result ≡ head_at n i) × (result + 150 ≤ n) }
 {
     HEADER_LENGTH + SLOT_LENGTH * (i - 1)
 }
@@ -61,21 +62,21 @@ pub fn key_at(n: usize, i: usize) -> usize
     requires { HasSlot n i }
     ensures { (result ≡ key_at n i) × (result + max_key ≤ n) }
 {
-    HEADER_LENGTH + SLOT_LENGTH * (i - 1) + 6
+    head_at(n, i) + 6
 }
 
 pub fn value_at(n: usize, i: usize) -> usize
     requires { HasSlot n i }
     ensures { (result ≡ value_at n i) × (result + max_value ≤ n) }
 {
-    HEADER_LENGTH + SLOT_LENGTH * (i - 1) + 54
+    head_at(n, i) + 54
 }
 
 pub fn digest_at(n: usize, i: usize) -> usize
     requires { HasSlot n i }
     ensures { (result ≡ digest_at n i) × (result + 32 ≤ n) }
 {
-    HEADER_LENGTH + SLOT_LENGTH * (i - 1) + 118
+    head_at(n, i) + 118
 }
 
 // ---- the header
@@ -116,12 +117,11 @@ pub fn set_root(s: &mut [u8], x: usize)
     requires x_bound { x < 2048 }
     ensures { s.new ≡ set_root s.old x }
 {
-    let mut h = header_of(s);
-    h.root = x;
-    set_header(s, h);
+    let h = header_of(s);
+    set_header(s, Header { root: x, ..h });
 }
 
-// ---- heads
+// ---- heads: one reader and one writer for each field, by the names that callers and the lens laws have
 
 pub fn head_of(s: &[u8], i: usize) -> Head
     requires { HasSlot (length s.now) i }
@@ -140,12 +140,6 @@ pub fn head_of(s: &[u8], i: usize) -> Head
     }
 }
 
-fn bit_of(b: bool) -> u64
-    ensures { (result ≡ bit b) × (result < 2) }
-{
-    if b { 1 } else { 0 }
-}
-
 // The head of slot `i` anew, count and all; its key, value and digest stay.
 fn set_head(s: &mut [u8], i: usize, h: Head)
     requires has_slot { HasSlot (length s.old) i }
@@ -156,8 +150,8 @@ fn set_head(s: &mut [u8], i: usize, h: Head)
     runs::put_six(
         s,
         a,
-        bit_of(h.live) * 0x8000_0000_0000
-            + bit_of(h.red) * 0x4000_0000_0000
+        u64::from(h.live) * 0x8000_0000_0000
+            + u64::from(h.red) * 0x4000_0000_0000
             + h.left as u64 * 0x8_0000_0000
             + h.right as u64 * 0x100_0000
             + h.key_length as u64 * 0x4_0000
@@ -170,9 +164,8 @@ pub fn set_red(s: &mut [u8], i: usize, x: bool)
     requires { HasSlot (length s.old) i }
     ensures { s.new ≡ set_red s.old i x }
 {
-    let mut h = head_of(s, i);
-    h.red = x;
-    set_head(s, i, h);
+    let h = head_of(s, i);
+    set_head(s, i, Head { red: x, ..h });
 }
 
 pub fn set_left(s: &mut [u8], i: usize, x: usize)
@@ -180,9 +173,8 @@ pub fn set_left(s: &mut [u8], i: usize, x: usize)
     requires x_bound { x < 2048 }
     ensures { s.new ≡ set_left s.old i x }
 {
-    let mut h = head_of(s, i);
-    h.left = x;
-    set_head(s, i, h);
+    let h = head_of(s, i);
+    set_head(s, i, Head { left: x, ..h });
 }
 
 pub fn set_right(s: &mut [u8], i: usize, x: usize)
@@ -190,9 +182,8 @@ pub fn set_right(s: &mut [u8], i: usize, x: usize)
     requires x_bound { x < 2048 }
     ensures { s.new ≡ set_right s.old i x }
 {
-    let mut h = head_of(s, i);
-    h.right = x;
-    set_head(s, i, h);
+    let h = head_of(s, i);
+    set_head(s, i, Head { right: x, ..h });
 }
 
 pub fn left(s: &[u8], i: usize) -> usize
@@ -229,12 +220,11 @@ pub fn set_count(s: &mut [u8], i: usize, x: usize)
     requires x_bound { x < 2048 }
     ensures { s.new ≡ set_count s.old i x }
 {
-    let mut h = head_of(s, i);
-    h.count = x;
-    set_head(s, i, h);
+    let h = head_of(s, i);
+    set_head(s, i, Head { count: x, ..h });
 }
 
-// ---- keys, values, digests
+// ---- keys, values, digests: each by its own name, over the same two lines
 
 // The first `n` bytes of the key's room: the key, where `n` is its length.
 pub fn key_part(s: &[u8], i: usize, n: usize) -> &[u8]
@@ -243,8 +233,7 @@ pub fn key_part(s: &[u8], i: usize, n: usize) -> &[u8]
     ensures { result.now ≡ take n (slot s.now i).key_room }
 {
     let b = key_at(s.len(), i);
-    let e = b + n;
-    &s[b..e]
+    &s[b..b + n]
 }
 
 pub fn value_part(s: &[u8], i: usize, n: usize) -> &[u8]
@@ -253,8 +242,7 @@ pub fn value_part(s: &[u8], i: usize, n: usize) -> &[u8]
     ensures { result.now ≡ take n (slot s.now i).value_room }
 {
     let b = value_at(s.len(), i);
-    let e = b + n;
-    &s[b..e]
+    &s[b..b + n]
 }
 
 pub fn key(s: &[u8], i: usize) -> &[u8]
@@ -280,8 +268,7 @@ pub fn digest(s: &[u8], i: usize) -> &[u8]
     ensures { result.now ≡ digest_of s.now i }
 {
     let b = digest_at(s.len(), i);
-    let e = b + 32;
-    &s[b..e]
+    &s[b..b + 32]
 }
 
 pub fn set_digest(s: &mut [u8], i: usize, d: &[u8; 32])
@@ -289,8 +276,7 @@ pub fn set_digest(s: &mut [u8], i: usize, d: &[u8; 32])
     ensures { s.new ≡ set_digest s.old i d.now }
 {
     let b = digest_at(s.len(), i);
-    let e = b + 32;
-    s[b..e].copy_from_slice(d);
+    s[b..b + 32].copy_from_slice(d);
 }
 
 // A new entry in slot `i`: red, with no children; its mark stays.
@@ -324,9 +310,15 @@ pub fn set_value(s: &mut [u8], i: usize, value: &[u8])
     requires value_len_bound { length value.now ≤ max_value }
     ensures { s.new ≡ set_value s.old i value.now }
 {
-    let mut h = head_of(s, i);
-    h.value_length = value.len();
-    set_head(s, i, h);
+    let h = head_of(s, i);
+    set_head(
+        s,
+        i,
+        Head {
+            value_length: value.len(),
+            ..h
+        },
+    );
     let v = value_at(s.len(), i);
     runs::put_padded(s, v, MAX_VALUE, value);
 }
@@ -339,10 +331,16 @@ pub fn move_entry(s: &mut [u8], i: usize, j: usize)
     ensures { s.new ≡ move_entry s.old i j }
 {
     let g = head_of(s, j);
-    let mut h = head_of(s, i);
-    h.key_length = g.key_length;
-    h.value_length = g.value_length;
-    set_head(s, i, h);
+    let h = head_of(s, i);
+    set_head(
+        s,
+        i,
+        Head {
+            key_length: g.key_length,
+            value_length: g.value_length,
+            ..h
+        },
+    );
     let k = key_at(s.len(), i);
     let l = key_at(s.len(), j);
     runs::copy_within(s, k, l, MAX_KEY);

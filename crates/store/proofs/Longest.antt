@@ -7,7 +7,7 @@ use native.Mathlib.Omega.{arith}
 use lib.ListN.{length, length-append}
 use borrow.Author.Tests.{le-ltb}
 use Rattle.key_order.specs.Order.{Key, cmp}
-use Rattle.key_order.specs.declared.Ordering.TheVariants.{Less}
+use Rattle.std.specs.declared.cmp.Ordering.TheVariants.{Less}
 use Rattle.key_order.proofs.Laws.{lt-gt}
 use Rattle.hash_tree.specs.HashTree.{HashTree, digest, fork_hash, leaf_hash}
 use Rattle.hash_tree.specs.Written.{write, size}

@@ -6,8 +6,8 @@ use mathlib.Core.Option.{none, some}
 use Prim.Native.Nat.{ℕ, ◌+◌, ◌≤◌}
 use native.Mathlib.Omega.{arith}
 use lib.ListN.{length}
-use Rattle.key_order.specs.declared.Ordering.{Ordering}
-use Rattle.key_order.specs.declared.Ordering.TheVariants.{Less, Equal, Greater}
+use Rattle.std.specs.declared.cmp.Ordering.{Ordering}
+use Rattle.std.specs.declared.cmp.Ordering.TheVariants.{Less, Equal, Greater}
 use Rattle.key_order.specs.Order.{Key, cmp, pick}
 use Rattle.llrb.specs.Tree.{Value, Entry, Tree, entries, get, insert, with_value}
 use Rattle.llrb.specs.Delete.{delete, freed}

@@ -10,8 +10,8 @@ use lib.Dec.{eqb, lit≤}
 use lib.ListN.{length, drop}
 use lib.Seq.{take-take}
 use borrow.Author.Tests.{le-ltb}
-use Rattle.key_order.specs.declared.Ordering.{Ordering}
-use Rattle.key_order.specs.declared.Ordering.TheVariants.{Less, Equal, Greater}
+use Rattle.std.specs.declared.cmp.Ordering.{Ordering}
+use Rattle.std.specs.declared.cmp.Ordering.TheVariants.{Less, Equal, Greater}
 use Rattle.key_order.specs.Order.{Key, cmp, pick}
 use Rattle.slots.specs.declared.Header.{Header}
 use Rattle.slots.specs.Layout.{HasSlot, KeyOf, ValueOf, header, Slot, slot, key_of, value_of, key_at, value_at, part, room, place, free_slot}

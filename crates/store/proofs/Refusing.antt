@@ -6,10 +6,9 @@ use mathlib.Core.List.{List, [], ◌∷◌}
 use Prim.Native.Nat.{ℕ}
 use lib.Dec.{ltb, leb, eqb}
 use lib.ListN.{length, replicate}
-use Rattle.answers.specs.Numbers.{LongMessage, number_of, max_message}
+use Rattle.answers.specs.Numbers.{max_message}
 use Rattle.sha256.specs.Hash.{sha256}
 use Rattle.sha256.specs.Hashed.{hashed}
-use Rattle.sha256.specs.declared.Hashed.{Hashed}
 use Rattle.slots.specs.Layout.{store_length, zeros}
 use Rattle.hash_tree.specs.HashTree.{HashTree}
 use Rattle.hash_tree.specs.Written.{max_depth}
@@ -18,10 +17,10 @@ use Rattle.hash_tree.specs.Whole.{rebuilt, alone}
 use Rattle.llrb.specs.Tree.{Entry, size}
 use Rattle.llrb.specs.Digests.{root_hash}
 use Rattle.witness_trees.specs.Witness.{as_hash_tree, keys, key_range, value_range, keys_with_prefix, witness}
-use Rattle.store.specs.Numbers.{NotSound, BadCapacity, Outcome, refused, done}
+use Rattle.store.specs.Numbers.{NotSound, BadCapacity, LongMessage, number_of, Outcome, refused, done}
 use Rattle.store.specs.Model.{Model, fresh}
 use Rattle.store.specs.Decide.{on_sound}
-use Rattle.store.specs.Answers.{told, counted, digested, found, changed, written, fitting}
+use Rattle.store.specs.Answers.{Digested, told, counted, digested, found, changed, written, fitting}
 use Rattle.store.specs.Calls.{refuse, get_in, first_in, next_in, insert_in, modify_in, delete_in, of_key, of_range, witnessed, create_answer, is_empty_answer, count_answer, root_hash_answer, get_answer, first_entry_answer, next_entry_answer, insert_answer, modify_answer, delete_answer, as_hash_tree_answer, keys_answer, witness_answer, keys_with_prefix_answer, key_range_answer, value_range_answer}
 use Rattle.answers.specs.Answers.{fitted}
 use Rattle.llrb.specs.Difference.{difference}
@@ -76,7 +75,7 @@ rebuilt-none (Got t (x ∷ rest)) n = refl
 rebuilt-none Bad n = refl
 
 -- what hash answers, whether the message is short enough being any
-abbrev pub hashed_if : Bool → List ℕ → Hashed
+abbrev pub hashed_if : Bool → List ℕ → Digested
 hashed_if b message = cond b (record { number = 0; digest = sha256 message }) (record { number = number_of LongMessage; digest = replicate 32 0 })
 
 hashed-none : (message : List ℕ) → (hashed message).number ≢ 0 → (hashed message).digest ≡ zeros 32

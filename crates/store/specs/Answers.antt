@@ -9,11 +9,7 @@ use Rattle.store.specs.Numbers.{number_of, Outcome, refused, done}
 use Rattle.store.specs.Model.{Model}
 use Rattle.store.specs.Encode.{encode}
 use Rattle.answers.specs.Answers.{no_entry, fitted}
-pub use Rattle.answers.specs.declared.Told.{Told}
-pub use Rattle.answers.specs.declared.Counted.{Counted}
-pub use Rattle.answers.specs.declared.Digested.{Digested}
-pub use Rattle.answers.specs.declared.Found.{Found}
-pub use Rattle.answers.specs.Answers.{told, counted, digested, Changed, changed_of, Written, written}
+pub use Rattle.answers.specs.Answers.{Told, told, Counted, counted, Digested, digested, Found, Changed, changed_of, Written, written}
 
 -- get and iteration: where in the store the key and the value lie, as offsets and lengths
 abbrev pub found : (s : List ℕ) → Outcome Entry → Found

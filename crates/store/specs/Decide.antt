@@ -2,8 +2,8 @@
 -- s holds, and z where s is not sound.
 use Rattle.std.specs.Prelude.{◌≡◌, refl, Bool, true, false, List, [], ◌∷◌, ℕ, zero, suc, length}
 use Rattle.std.proofs.Common.{sym, ap, subst, true≢false, arith}
-use Rattle.key_order.specs.declared.Ordering.{Ordering}
-use Rattle.key_order.specs.declared.Ordering.TheVariants.{Less, Equal, Greater}
+use Rattle.std.specs.declared.cmp.Ordering.{Ordering}
+use Rattle.std.specs.declared.cmp.Ordering.TheVariants.{Less, Equal, Greater}
 use Rattle.key_order.specs.Order.{Key, cmp}
 use Rattle.slots.specs.declared.Header.{Header}
 use Rattle.slots.specs.Layout.{current, store_length, header, Slot, Mark}

@@ -1,82 +1,72 @@
 -- Pairs of hex digits, as far as they have been read.
 use mathlib.Core.Path.{◌≡◌, refl, sym, ap, ◌∙◌}
-use mathlib.Core.Bool.{Bool, true, false, and-false}
-use mathlib.Core.List.{List, [], ◌∷◌, ◌++◌, append-nil}
-use Prim.Native.Nat.{ℕ, suc, ◌+◌, ◌*◌, ◌%◌, ◌/◌, ◌≤◌, ◌<◌}
+use mathlib.Core.List.{List, [], ◌∷◌, ◌++◌, append-nil, append_assoc}
+use Prim.Native.Nat.{ℕ}
 use native.Mathlib.Omega.{arith}
-use lib.ListN.{length, get_or, drop, drop_of_length-le}
-use lib.Seq.{drop-cons, append_snoc}
+use lib.ListN.{length, get_or}
+use Rattle.std.specs.Prelude.{Option, Some, None, option_map}
 use Rattle.text.specs.declared.hex.Few.{Few}
-use Rattle.text.specs.Hex.{is_pair, joined_of, few_of, with_byte, all_pairs, joined_all, pairs_of}
-use Rattle.text.proofs.Fews.{few-short, one_more}
+use Rattle.text.specs.Hex.{of_both, joined_of, few_of, with_byte, joined_all, pairs_of}
+use Rattle.text.proofs.Fews.{one_more}
 
-no_pairs : (word : List ℕ) → (length word % 2 ≡ 0 → ⊥) → all_pairs word ≡ false
-unfolding all_pairs
-no_pairs [] n = absurd (n refl)
-no_pairs (a ∷ []) n = refl
-no_pairs (a ∷ b ∷ word) n =
-    rw (no_pairs word (λ (e : length word % 2 ≡ 0). n (omega arith))) (and-false (is_pair a b))
+both : (xs : List ℕ) → length xs ≡ 2 → xs ≡ get_or xs 0 0 ∷ get_or xs 1 0 ∷ []
+both [] e = absurd (omega arith)
+both (x ∷ []) e = absurd (omega arith)
+both (x ∷ y ∷ []) e = refl
+both (x ∷ y ∷ z ∷ xs) e = absurd (omega arith)
 
-pub at-odd-length : (word : List ℕ) → (length word % 2 ≡ 0 → ⊥) → few_of false [] ≡ pairs_of word
-unfolding pairs_of
-at-odd-length word n = sym (rw (no_pairs word n) refl)
-
-pub pairs-short : (word : List ℕ) (few : Few) → few ≡ pairs_of word → few.len ≤ 65
-unfolding pairs_of
-pairs-short word few e = go (all_pairs word) refl
-  where
-    go : (t : Bool) → all_pairs word ≡ t → few.len ≤ 65
-    go true h = few-short true (joined_all word) few (e ∙ rw h refl)
-    go false h = few-short false [] few (e ∙ rw h refl)
-
--- the first i pairs stand for the few bytes
-pub record Upto (word : List ℕ) (few : Few) (i : ℕ) : Type 0 where
-  pub in-word : 2 * i ≤ length word
+-- the pairs in front of the rest stand for the few bytes
+pub record Upto (word : List ℕ) (few : Few) (rest : List ℕ) : Type 0 where
   pub done : List ℕ
-  pub few-is : few ≡ few_of true done
-  pub good : all_pairs word ≡ all_pairs (drop (2 * i) word)
-  pub bytes : joined_all word ≡ done ++ joined_all (drop (2 * i) word)
+  pub few-is : few ≡ few_of done
+  pub bytes : joined_all word ≡ option_map (λ xs. done ++ xs) (joined_all rest)
 
-pub begins : (word : List ℕ) (few : Few) → few ≡ few_of true [] → Upto word few 0
-begins word few e = record { in-word = omega arith; done = []; few-is = e; good = refl; bytes = refl }
+pub begins : (word : List ℕ) (few : Few) → few ≡ few_of [] → Upto word few word
+begins word few e = record { done = []; few-is = e; bytes = all (joined_all word) }
+  where
+    all : (r : Option (List ℕ)) → r ≡ option_map (λ xs. [] ++ xs) r
+    all None = refl
+    all (Some xs) = refl
 
-drop-two : (word : List ℕ) (j : ℕ) → j + 1 < length word → drop j word ≡ get_or word j 0 ∷ get_or word (j + 1) 0 ∷ drop (j + 2) word
-drop-two word j l =
-    let a : suc j ≡ j + 1 = omega arith in
-    let b : suc (j + 1) ≡ j + 2 = omega arith in
-    drop-cons word j 0 (omega arith) ∙ rw (a, drop-cons word (j + 1) 0 l, b) refl
+module _ {word : List ℕ} {few : Few} {rest : List ℕ} (p : Upto word few rest) where
+  pub ends : length rest ≡ 0 → Some few ≡ pairs_of word
+  unfolding pairs_of joined_all
+  ends e = at rest e p.bytes
+    where
+      at : (xs : List ℕ) → length xs ≡ 0 → joined_all word ≡ option_map (λ ys. p.done ++ ys) (joined_all xs) → Some few ≡ pairs_of word
+      at [] z h = sym (rw (h, append-nil p.done) (ap Some (sym p.few-is)))
+      at (x ∷ xs) z h = absurd (omega arith)
 
-module _ {word : List ℕ} {few : Few} {i : ℕ} (p : Upto word few i) where
-  pub ends : length word % 2 ≡ 0 → length word / 2 ≤ i → few ≡ pairs_of word
-  unfolding pairs_of all_pairs joined_all
-  ends e h =
-      let d : drop (2 * i) word ≡ [] = drop_of_length-le word {i = 2 * i} (omega arith) in
-      let g : all_pairs word ≡ true = p.good ∙ rw d refl in
-      let b : joined_all word ≡ p.done = p.bytes ∙ rw d (append-nil p.done) in
-      p.few-is ∙ sym (rw (g, b) refl)
+  -- a last digit without another
+  pub at-one : length rest ≡ 1 → None ≡ pairs_of word
+  unfolding pairs_of joined_all
+  at-one e = at rest e p.bytes
+    where
+      at : (xs : List ℕ) → length xs ≡ 1 → joined_all word ≡ option_map (λ ys. p.done ++ ys) (joined_all xs) → None ≡ pairs_of word
+      at [] z h = absurd (omega arith)
+      at (x ∷ []) z h = sym (rw h refl)
+      at (x ∷ y ∷ xs) z h = absurd (omega arith)
 
-  module _ (l : i < length word / 2) where
-    abbrev high : ℕ
-    high = get_or word (2 * i) 0
+  module _ (pair more : List ℕ) (e : rest ≡ pair ++ more) (two : length pair ≡ 2) where
+    abbrev read : Option ℕ
+    read = joined_of (get_or pair 0 0) (get_or pair 1 0)
 
-    abbrev low : ℕ
-    low = get_or word (2 * i + 1) 0
+    split : rest ≡ get_or pair 0 0 ∷ get_or pair 1 0 ∷ more
+    split = e ∙ ap (λ (xs : List ℕ). xs ++ more) (both pair two)
 
-    pub at_other : is_pair high low ≡ false → few_of false [] ≡ pairs_of word
-    unfolding pairs_of all_pairs
-    at_other e =
-        let g : all_pairs word ≡ false = p.good ∙ rw (drop-two word (2 * i) (omega arith), e) refl in
-        sym (rw g refl)
+    pub at_other : read ≡ None → None ≡ pairs_of word
+    unfolding pairs_of joined_all
+    at_other n = sym (rw (p.bytes, split, n) refl)
 
-    pub at_pair : is_pair high low ≡ true → Upto word (with_byte few (joined_of high low)) (i + 1)
-    unfolding all_pairs joined_all
-    at_pair e =
-        let k : 2 * (i + 1) ≡ 2 * i + 2 = omega arith in
-        let t = drop-two word (2 * i) (omega arith) in
+    pub at_pair : (b : ℕ) → read ≡ Some b → Upto word (with_byte few b) more
+    unfolding joined_all
+    at_pair b s =
         record {
-          in-word = omega arith;
-          done = p.done ++ (joined_of high low ∷ []);
-          few-is = ap (λ (f : Few). with_byte f (joined_of high low)) p.few-is ∙ one_more true p.done (joined_of high low);
-          good = p.good ∙ rw (k, t, e) refl;
-          bytes = p.bytes ∙ rw (k, t) (sym (append_snoc p.done (joined_of high low) (joined_all (drop (2 * i + 2) word))));
+          done = p.done ++ (b ∷ []);
+          few-is = ap (λ (f : Few). with_byte f b) p.few-is ∙ one_more p.done b;
+          bytes = p.bytes ∙ rw (split, s) (moved (joined_all more));
         }
+      where
+        moved : (r : Option (List ℕ)) → option_map (λ xs. p.done ++ xs) (of_both (λ x xs. x ∷ xs) (Some b) r) ≡ option_map (λ xs. (p.done ++ (b ∷ [])) ++ xs) r
+        moved None = refl
+        moved (Some xs) = ap Some (sym (append_assoc p.done (b ∷ []) xs))

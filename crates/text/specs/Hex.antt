@@ -1,25 +1,26 @@
 -- Names and values as a person writes them, decimal numbers, and what can be printed as it is.
-use Rattle.std.specs.Prelude.{Bool, true, false, cond, not, ◌&&◌, List, [], ◌∷◌, ℕ, zero, suc, ◌+◌, ◌*◌, ◌-◌, ◌%◌, ◌^◌, ltb, leb, eqb, length, get_or, take, drop, set}
+use Rattle.std.specs.Prelude.{Bool, true, cond, not, ◌&&◌, List, [], ◌∷◌, ℕ, zero, suc, ◌+◌, ◌*◌, ◌-◌, ◌%◌, ◌^◌, ltb, leb, eqb, length, get_or, take, drop, set, Option, Some, None, option_map, option_and_then}
 use Rattle.text.specs.Words.{part_of, same_bytes}
 use Rattle.text.specs.declared.hex.Few.{Few}
-use Rattle.text.specs.declared.hex.Number.{Number}
-use Rattle.text.specs.declared.hex.Number.TheVariants.{Is, Bad}
 
 -- from the first to the last of a row of letters
 abbrev pub between : ℕ → ℕ → ℕ → Bool
 between first last b = leb first b && leb b last
 
--- what a hex digit stands for: 0 to 9, a to f, A to F; 16 for any other byte
-unfoldable pub digit_of : ℕ → ℕ
+-- what a hex digit stands for: 0 to 9, a to f, A to F
+unfoldable pub digit_of : ℕ → Option ℕ
 digit_of b =
-    cond (between 48 57 b) (b - 48) (cond (between 97 102 b) (b - 97 + 10) (cond (between 65 70 b) (b - 65 + 10) 16))
+    cond (between 48 57 b) (Some (b - 48)) (cond (between 97 102 b) (Some (b - 97 + 10)) (cond (between 65 70 b) (Some (b - 65 + 10)) None))
 
-unfoldable pub is_pair : ℕ → ℕ → Bool
-is_pair high low = not (eqb (digit_of high) 16) && not (eqb (digit_of low) 16)
+-- f of both, where both are there
+abbrev pub of_both : {A B C : Type 0} → (A → B → C) → Option A → Option B → Option C
+of_both f (Some a) (Some b) = Some (f a b)
+of_both f (Some a) None = None
+of_both f None y = None
 
--- the byte of two digits; no digit counts as 0
-unfoldable pub joined_of : ℕ → ℕ → ℕ
-joined_of high low = digit_of high % 16 * 16 + digit_of low % 16
+-- the byte of two digits
+unfoldable pub joined_of : ℕ → ℕ → Option ℕ
+joined_of high low = of_both (λ h l. h * 16 + l) (digit_of high) (digit_of low)
 
 -- ---- a few bytes
 
@@ -29,63 +30,54 @@ padded zero xs = []
 padded (suc n) [] = 0 ∷ padded n []
 padded (suc n) (x ∷ xs) = x ∷ padded n xs
 
-unfoldable pub few_of : Bool → List ℕ → Few
-few_of ok xs = record { ok = ok; len = length (take 65 xs); bytes = padded 65 xs }
+unfoldable pub few_of : List ℕ → Few
+few_of xs = record { len = length (take 65 xs); bytes = padded 65 xs }
 
 -- one byte more, if there is room for it
 unfoldable pub with_byte : Few → ℕ → Few
 with_byte few b =
-    cond (ltb few.len 65) (record { ok = few.ok; len = few.len + 1; bytes = set few.bytes few.len b }) few
+    cond (ltb few.len 65) (record { len = few.len + 1; bytes = set few.bytes few.len b }) few
 
--- pairs of hex digits, and nothing else
-unfoldable pub all_pairs : List ℕ → Bool
-all_pairs [] = true
-all_pairs (a ∷ []) = false
-all_pairs (a ∷ b ∷ word) = is_pair a b && all_pairs word
+-- the bytes that pairs of hex digits stand for, where there is nothing else
+unfoldable pub joined_all : List ℕ → Option (List ℕ)
+joined_all [] = Some []
+joined_all (a ∷ []) = None
+joined_all (a ∷ b ∷ word) = of_both (λ x xs. x ∷ xs) (joined_of a b) (joined_all word)
 
--- the bytes that they stand for
-unfoldable pub joined_all : List ℕ → List ℕ
-joined_all [] = []
-joined_all (a ∷ []) = []
-joined_all (a ∷ b ∷ word) = joined_of a b ∷ joined_all word
-
-unfoldable pub pairs_of : List ℕ → Few
-pairs_of word = cond (all_pairs word) (few_of true (joined_all word)) (few_of false [])
+unfoldable pub pairs_of : List ℕ → Option Few
+pairs_of word = option_map few_of (joined_all word)
 
 -- ---- values and names
 
 -- hex, or `-` for no byte
-unfoldable pub value_of : List ℕ → Few
+unfoldable pub value_of : List ℕ → Option Few
 value_of word =
-    cond (same_bytes word (45 ∷ [])) (few_of true []) (cond (eqb (length word) 0) (few_of false []) (pairs_of word))
+    cond (same_bytes word (45 ∷ [])) (Some (few_of [])) (cond (eqb (length word) 0) None (pairs_of word))
 
 -- the word begins with `hex:`
 unfoldable pub says_hex : List ℕ → Bool
 says_hex word = same_bytes (part_of word 0 4) (104 ∷ 101 ∷ 120 ∷ 58 ∷ [])
 
 -- as it is, or `hex:` and hex
-unfoldable pub name_of : List ℕ → Few
+unfoldable pub name_of : List ℕ → Option Few
 name_of word =
-    cond (says_hex word) (pairs_of (drop 4 word)) (cond (eqb (length word) 0) (few_of false []) (few_of true word))
+    cond (says_hex word) (pairs_of (drop 4 word)) (cond (eqb (length word) 0) None (Some (few_of word)))
 
 -- ---- numbers
 
--- the number with one decimal digit more; bad, if it is no digit or the number needs more than 64 bits
-unfoldable pub appended_to : ℕ → ℕ → Number
-appended_to n b = cond (between 48 57 b && ltb (n * 10 + (b - 48)) (2 ^ 64)) (Is (n * 10 + (b - 48))) Bad
-
-abbrev pub and_then : (ℕ → Number) → Number → Number
-and_then f (Is n) = f n
-and_then f Bad = Bad
+-- the number with one decimal digit more, if it is a digit and the number needs no more than 64 bits
+unfoldable pub appended_to : ℕ → ℕ → Option ℕ
+appended_to n b =
+    cond (between 48 57 b && ltb (n * 10 + (b - 48)) (2 ^ 64)) (Some (n * 10 + (b - 48))) None
 
 -- the number n with the digits after it
-unfoldable pub number_from : ℕ → List ℕ → Number
-number_from n [] = Is n
-number_from n (b ∷ word) = and_then (λ m. number_from m word) (appended_to n b)
+unfoldable pub number_from : ℕ → List ℕ → Option ℕ
+number_from n [] = Some n
+number_from n (b ∷ word) = option_and_then (λ m. number_from m word) (appended_to n b)
 
 -- at least one digit
-unfoldable pub decimal_of : List ℕ → Number
-decimal_of [] = Bad
+unfoldable pub decimal_of : List ℕ → Option ℕ
+decimal_of [] = None
 decimal_of (b ∷ word) = number_from 0 (b ∷ word)
 
 -- ---- printing

@@ -1,5 +1,5 @@
 -- Parts of a text, and the words of a line: parted by zero bytes, which stand for blanks.
-use Rattle.std.specs.Prelude.{Bool, true, false, cond, ◌||◌, List, [], ◌∷◌, ◌++◌, map, ℕ, zero, suc, ◌+◌, ◌-◌, leb, eqb, length, get_or, take, drop}
+use Rattle.std.specs.Prelude.{Bool, true, false, cond, ◌||◌, List, [], ◌∷◌, ◌++◌, map, ℕ, zero, suc, ◌+◌, ◌-◌, leb, eqb, length, get_or, take, drop, Option, Some, None}
 use Rattle.key_order.specs.Order.{cmp, pick}
 
 -- ---- parts
@@ -85,11 +85,11 @@ start_of line (suc k) = skip_of line (place_of line (start_of line k) 0)
 abbrev pub rest_of : List ℕ → ℕ → List ℕ
 rest_of line k = drop (start_of line k) line
 
--- the first of n words from word i on that is the name; i + n, if none is
-unfoldable pub index_from : List ℕ → List ℕ → ℕ → ℕ → ℕ
-index_from table name i zero = i
-index_from table name i (suc n) = cond (same_bytes (word_of table i) name) i (index_from table name (suc i) n)
+-- the first of n words from word i on that is the name
+unfoldable pub index_from : List ℕ → List ℕ → ℕ → ℕ → Option ℕ
+index_from table name i zero = None
+index_from table name i (suc n) = cond (same_bytes (word_of table i) name) (Some i) (index_from table name (suc i) n)
 
--- which of the first `count` words is the name; `count`, if none is
-abbrev pub index_in : List ℕ → List ℕ → ℕ → ℕ
+-- which of the first `count` words is the name
+abbrev pub index_in : List ℕ → List ℕ → ℕ → Option ℕ
 index_in table name count = index_from table name 0 count

@@ -15,10 +15,7 @@ const EPIPE: i32 = 32;
 // Whether the last call that failed was such a write. The system's signal for it ended a program; std's start keeps that signal away, so a
 // program asks, and ends by itself.
 pub fn is_unread() -> bool {
-    match last_error().raw_os_error() {
-        Some(EPIPE) => true,
-        _ => false,
-    }
+    matches!(last_error().raw_os_error(), Some(EPIPE))
 }
 
 // The exit status that a shell gives a program which that signal ended.
@@ -35,6 +32,7 @@ pub fn say_number(to: i32, n: usize) {
     io::print_decimal(to, n as u64);
 }
 
+#[tactic(auto, unfolding(crate::specs::Hex::glyph_of))]
 fn glyph(n: u8) -> u8
     ensures { result ≡ glyph_of n }
 {
@@ -47,24 +45,18 @@ fn glyph(n: u8) -> u8
 // The digits of any bytes, 4,096 digits at a time.
 fn digits(to: i32, s: &[u8]) {
     let mut text = [0u8; 4096];
-    let mut at = 0;
-    let mut i = 0;
-    while i < s.len() {
-        text[at] = glyph(s[i] / 16);
-        text[at + 1] = glyph(s[i] % 16);
-        at += 2;
-        i += 1;
-        if at > 4094 {
-            say(to, &text);
-            at = 0;
+    for part in s.chunks(2048) {
+        for (pair, b) in text.chunks_exact_mut(2).zip(part) {
+            pair[0] = glyph(*b / 16);
+            pair[1] = glyph(*b % 16);
         }
+        say(to, &text[..2 * part.len()]);
     }
-    say(to, &text[..at]);
 }
 
 // Bytes in hex; `-` if there are none.
 pub fn say_hex(to: i32, s: &[u8]) {
-    if s.len() == 0 {
+    if s.is_empty() {
         return say(to, b"-");
     }
     digits(to, s);
@@ -80,33 +72,21 @@ pub fn say_with_hex(to: i32, before: &[u8], s: &[u8], after: &[u8]) {
 fn all_printable(s: &[u8]) -> bool
     ensures { result ≡ all_printable s.now }
 {
-    let mut i = 0;
-    while i < s.len() {
-        if s[i] <= b' ' {
-            return false;
-        }
-        if b'~' < s[i] {
-            return false;
-        }
-        i += 1;
-    }
-    true
+    s.iter().all(|b| matches!(*b, b'!'..=b'~'))
 }
 
 // Whether a name stands for itself in a line of words.
+#[tactic(auto, unfolding(crate::specs::Hex::is_plain, crate::specs::Hex::says_hex))]
 pub fn is_plain(s: &[u8]) -> bool
     ensures { result ≡ is_plain s.now }
 {
-    if s.len() == 0 {
+    if s.is_empty() {
         return false;
     }
     if s[0] == b'#' {
         return false;
     }
-    if is(part(s, 0, 4), b"hex:") {
-        return false;
-    }
-    all_printable(s)
+    !is(part(s, 0, 4), b"hex:") && all_printable(s)
 }
 
 // A name as it can be typed in again: as it is, or in hex.

@@ -1,5 +1,5 @@
 // The words of a line: parted by zero bytes, which stand for blanks (`blanked`).
-ghost use Rattle.std.specs.Prelude.{◌≡◌, ◌≤◌, length};
+ghost use Rattle.std.specs.Prelude.{◌≡◌, ◌≤◌, ◌<◌, length, IfSome};
 ghost use Rattle.io.specs.Counts.{IsPrefixLen};
 ghost use Rattle.text.specs.Words.{within_of, part_of, piece_of, same_bytes, unblank_of, blanked_of, place_of, skip_of, start_of, word_of, rest_of, has_words, index_in};
 
@@ -17,11 +17,7 @@ pub fn within(n: usize, s: &[u8]) -> usize
 pub fn part(s: &[u8], from: usize, to: usize) -> &[u8]
     ensures { result.now ≡ part_of s.now from to }
 {
-    let e = within(to, s);
-    if from <= e {
-        return &s[from..e];
-    }
-    &s[e..e]
+    s.get(from..to).unwrap_or(&s[..0])
 }
 
 // The `len` bytes that begin at `from`; none, where they are not all there.
@@ -53,10 +49,8 @@ fn unblank(b: u8) -> u8
 pub fn blanked(s: &mut [u8])
     ensures { s.new ≡ blanked_of s.old }
 {
-    let mut i = 0;
-    while i < s.len() {
-        s[i] = unblank(s[i]);
-        i += 1;
+    for b in s.iter_mut() {
+        *b = unblank(*b);
     }
 }
 
@@ -66,14 +60,8 @@ pub fn find(s: &[u8], from: usize, b: u8) -> usize
     ensures lower_bound { (from ≤ result) × (result ≤ length s.now) }
     ensures value { result ≡ place_of s.now from b }
 {
-    let mut i = from;
-    while i < s.len() {
-        if s[i] == b {
-            return i;
-        }
-        i += 1;
-    }
-    i
+    let rest = &s[from..];
+    from + rest.iter().position(|x| *x == b).unwrap_or(rest.len())
 }
 
 // The place of the first byte from `from` on that is not zero, or the end.
@@ -82,14 +70,8 @@ fn skip(s: &[u8], from: usize) -> usize
     ensures lower_bound { (from ≤ result) × (result ≤ length s.now) }
     ensures value { result ≡ skip_of s.now from }
 {
-    let mut i = from;
-    while i < s.len() {
-        if s[i] != 0 {
-            return i;
-        }
-        i += 1;
-    }
-    i
+    let rest = &s[from..];
+    from + rest.iter().position(|x| *x != 0).unwrap_or(rest.len())
 }
 
 // Where the word `k` begins, counted from 0; the end, if there are fewer.
@@ -98,10 +80,8 @@ fn start(line: &[u8], k: usize) -> usize
     ensures value { result ≡ start_of line.now k }
 {
     let mut at = skip(line, 0);
-    let mut left = k;
-    while left > 0 {
+    for _ in 0..k {
         at = skip(line, find(line, at, 0));
-        left -= 1;
     }
     at
 }
@@ -130,23 +110,13 @@ pub fn has(line: &[u8], n: usize) -> bool
     if n == 0 {
         return start(line, 0) == line.len();
     }
-    if start(line, n - 1) == line.len() {
-        return false;
-    }
-    start(line, n) == line.len()
+    start(line, n - 1) < line.len() && start(line, n) == line.len()
 }
 
-// Which of the first `count` words of a table it is; `count`, if none.
-pub fn index(table: &[u8], name: &[u8], count: usize) -> usize
-    ensures upper_bound { result ≤ count }
+// Which of the first `count` words of a table it is, if any.
+pub fn index(table: &[u8], name: &[u8], count: usize) -> Option<usize>
+    ensures upper_bound { IfSome result (λ i. i < count) }
     ensures value { result ≡ index_in table.now name.now count }
 {
-    let mut i = 0;
-    while i < count {
-        if is(word(table, i), name) {
-            return i;
-        }
-        i += 1;
-    }
-    count
+    (0..count).find(|i| is(word(table, *i), name))
 }

@@ -2,7 +2,7 @@
 // after one judging. A row has 64 bytes; its front is the key or the value.
 #![tactic(auto)]
 
-ghost use Rattle.std.specs.Prelude.{◌≡◌, ◌≤◌, length};
+ghost use Rattle.std.specs.Prelude.{◌≡◌, ◌≢◌, ◌≤◌, length};
 ghost use Rattle.runs.specs.Runs.{Decides};
 ghost use Rattle.store.specs.Sound.{Sound};
 ghost use Rattle.sha256.specs.Hash.{sha256};
@@ -10,17 +10,18 @@ ghost use Rattle.hash_tree.specs.Whole.{rebuilt};
 ghost use Rattle.search.specs.Search.{answer_of};
 ghost use Rattle.timed.specs.Rows.{Rows, Ran, Told, changed, changed_rows, one, counted, counted_rows, output, output_rows};
 
+use answers::Refusal;
 use judge::judge;
 use search::Place;
 
 const ROW: usize = 64;
 
-// The changes; any other number deletes.
+// The changes, by the numbers that C gives them (timed_change); any other number deletes.
 const INSERT: usize = 0;
 
 const MODIFY: usize = 1;
 
-// The readings; any other number is a range with values.
+// The readings, likewise (timed_read); any other number is a range with values.
 const GET: usize = 0;
 
 const AS_HASH_TREE: usize = 1;
@@ -32,33 +33,24 @@ const KEY_RANGE: usize = 3;
 fn has_rows(table: &[u8], most: usize, length: usize, rows: usize) -> bool
     ensures { Decides result (Rows most length rows table.now) }
 {
-    if most < length {
-        return false;
-    }
-    if table.len() / ROW < rows {
-        return false;
-    }
-    true
+    length <= most && rows <= table.len() / ROW
 }
 
 // ---- changes
 
-fn change(op: usize, s: &mut [u8], key: &[u8], value: &[u8])
+fn change(op: usize, s: &mut [u8], key: &[u8], value: &[u8]) -> Result<(), Refusal>
     requires sound { Sound s.old }
     requires lengths { (length key.now ≤ 48) × (length value.now ≤ 64) }
     ensures { (Sound s.new) × (s.new ≡ changed op key.now value.now s.old) }
 {
-    if op == INSERT {
-        rb_tree::insert(s, key, value);
-        return;
+    match op {
+        INSERT => rb_tree::insert(s, key, value),
+        MODIFY => rb_tree::modify(s, key, value),
+        _ => rb_tree::delete(s, key),
     }
-    if op == MODIFY {
-        rb_tree::modify(s, key, value);
-        return;
-    }
-    rb_tree::delete(s, key);
 }
 
+// What a change is refused for, a full store or an absent key, is no matter here.
 fn change_rows(
     op: usize,
     s: &mut [u8],
@@ -72,16 +64,14 @@ fn change_rows(
     requires rows { (Rows 48 key_length rows keys.now) × (Rows 64 value_length rows values.now) }
     ensures { s.new ≡ changed_rows op keys.now key_length values.now value_length rows s.old }
 {
-    let mut i = 0;
-    while i < rows {
+    for i in 0..rows {
         let a = ROW * i;
-        change(
+        let _ = change(
             op,
             s,
             &keys[a..a + key_length],
             &values[a..a + value_length],
         );
-        i += 1;
     }
 }
 
@@ -98,10 +88,7 @@ pub extern "C" fn timed_change(
 ) -> bool
     ensures { Ran (Sound store.old × Rows 48 key_length rows keys.now × Rows 64 value_length rows values.now) result store.old store.new (changed_rows op keys.now key_length values.now value_length rows store.old) }
 {
-    if !has_rows(keys, 48, key_length, rows) {
-        return false;
-    }
-    if !has_rows(values, 64, value_length, rows) {
+    if !has_rows(keys, 48, key_length, rows) || !has_rows(values, 64, value_length, rows) {
         return false;
     }
     if !judge(store) {
@@ -113,22 +100,31 @@ pub extern "C" fn timed_change(
 
 // ---- readings
 
-fn found(place: Place) -> usize
+fn found(place: Option<Place>) -> usize
     ensures { (result ≡ one (answer_of place).number) × (result ≤ 1) }
 {
-    let Place::At {
-        key_at: _,
-        key_length: _,
-        value_at: _,
-        value_length: _,
-    } = place
-    else {
-        return 0;
-    };
-    1
+    match place {
+        Some(_) => 1,
+        None => 0,
+    }
 }
 
-// What is written goes to the front of the output; get writes nothing, and counts what it finds.
+// What is written goes to the front of the output.
+fn write(op: usize, s: &[u8], first: &[u8], last: &[u8], out: &mut [u8]) -> Result<usize, Refusal>
+    requires sound { Sound s.now }
+    requires lengths { (length first.now ≤ 48) × (length last.now ≤ 48) }
+    requires no_get { op ≢ 0 }
+    ensures { out.new ≡ output op first.now last.now s.now out.old }
+{
+    match op {
+        AS_HASH_TREE => witness::as_hash_tree(s, out),
+        WITNESS => witness::witness(s, first, out),
+        KEY_RANGE => witness::key_range(s, first, last, out),
+        _ => witness::value_range(s, first, last, out),
+    }
+}
+
+// get writes nothing, and counts what it finds; what it takes to write is the same where the output is too short.
 fn read(op: usize, s: &[u8], first: &[u8], last: &[u8], out: &mut [u8]) -> usize
     requires sound { Sound s.now }
     requires lengths { (length first.now ≤ 48) × (length last.now ≤ 48) }
@@ -137,19 +133,7 @@ fn read(op: usize, s: &[u8], first: &[u8], last: &[u8], out: &mut [u8]) -> usize
     if op == GET {
         return found(search::get_place(s, first));
     }
-    if op == AS_HASH_TREE {
-        witness::as_hash_tree(s, out);
-        return 1;
-    }
-    if op == WITNESS {
-        witness::witness(s, first, out);
-        return 1;
-    }
-    if op == KEY_RANGE {
-        witness::key_range(s, first, last, out);
-        return 1;
-    }
-    witness::value_range(s, first, last, out);
+    let _ = write(op, s, first, last, out);
     1
 }
 
@@ -167,8 +151,7 @@ fn read_rows(
     ensures { (result ≡ counted_rows op s.now firsts.now key_length rows) × (out.new ≡ output_rows op s.now firsts.now lasts.now key_length rows out.old) }
 {
     let mut n = 0;
-    let mut i = 0;
-    while i < rows {
+    for i in 0..rows {
         let a = ROW * i;
         let r = read(
             op,
@@ -178,7 +161,6 @@ fn read_rows(
             out,
         );
         n += r;
-        i += 1;
     }
     n
 }
@@ -196,10 +178,7 @@ pub extern "C" fn timed_read(
 ) -> usize
     ensures { Told (Sound store.now × Rows 48 key_length rows firsts.now × Rows 48 key_length rows lasts.now) result (counted_rows op store.now firsts.now key_length rows) out.old out.new (output_rows op store.now firsts.now lasts.now key_length rows out.old) }
 {
-    if !has_rows(firsts, 48, key_length, rows) {
-        return 0;
-    }
-    if !has_rows(lasts, 48, key_length, rows) {
+    if !has_rows(firsts, 48, key_length, rows) || !has_rows(lasts, 48, key_length, rows) {
         return 0;
     }
     if !judge(store) {
@@ -210,15 +189,21 @@ pub extern "C" fn timed_read(
 
 // ---- rebuild
 
-// The number of document 01, and the digest.
+// The number of document 01, and the digest; zeros where there is none.
 #[unsafe(no_mangle)]
 pub extern "C" fn timed_rebuild(witness: &[u8], digest: &mut [u8; 32]) -> usize
     ensures { (result ≡ (rebuilt witness.now).number) × (digest.new ≡ (rebuilt witness.now).digest) }
 {
-    let r = hash_tree::rebuild(witness);
-    let d = r.digest;
-    *digest = d;
-    r.number
+    match hash_tree::rebuild(witness) {
+        Ok(d) => {
+            *digest = d;
+            0
+        }
+        Err(r) => {
+            *digest = [0; 32];
+            r.number()
+        }
+    }
 }
 
 // ---- SHA-256, for the other side to hash with

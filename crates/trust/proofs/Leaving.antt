@@ -6,8 +6,9 @@ use mathlib.Core.List.{List, [], ◌∷◌, ◌++◌, append_assoc}
 use mathlib.Core.Option.{none, some}
 use native.Mathlib.Omega.{arith}
 use lib.ListN.{length}
-use Rattle.key_order.specs.declared.Ordering.{Ordering}
-use Rattle.key_order.specs.declared.Ordering.TheVariants.{Less, Equal, Greater}
+use Rattle.std.specs.Prelude.{Some}
+use Rattle.std.specs.declared.cmp.Ordering.{Ordering}
+use Rattle.std.specs.declared.cmp.Ordering.TheVariants.{Less, Equal, Greater}
 use Rattle.key_order.specs.Order.{Key, cmp, pick}
 use Rattle.key_order.proofs.Laws.{cmp-eq, cmp-refl, gt-lt, gt≢eq}
 use Rattle.hash_tree.specs.HashTree.{HashTree, Empty, Fork, Labeled, Leaf, Pruned}
@@ -269,9 +270,9 @@ leaves-open k L M c r n a =
 
 -- UNKNOWN: of a file that tells the truth of a sound store
 pub unknown-open : (s : List ℕ) → Sound s → (u : HashTree) (w : List ℕ) → Truth s u w → (k : Key) → length k ≤ 48
-    → (lookup_answer k w).looked ≡ looked.Unknown → Open k (flatten u)
+    → (lookup_answer k w).looked ≡ Some looked.Unknown → Open k (flatten u)
 unknown-open s h u w t k n e =
-    let f = subst (λ (x : List ℕ). (lookup_answer k x).looked ≡ looked.Unknown) t.tells.reads.0 e in
+    let f = subst (λ (x : List ℕ). (lookup_answer k x).looked ≡ Some looked.Unknown) t.tells.reads.0 e in
     let y : ((x : HashTree) → Found k x (flatten u) → ⊥) × (Absent k (flatten u) → ⊥) =
     subst (Says k _ (flatten u)) f (says-answered k u n t.tells.reads.1 t.honest.well_formed) in
     leaves-open k (flatten u) (map_of s) t.honest.covers (sorted-rising (entries (decode s).tree) (sound-decodes h).lawful.ordered) y.0 y.1

@@ -6,14 +6,15 @@ use mathlib.Core.Path.{◌≡◌, refl, sym, ap, ◌∙◌}
 use mathlib.Core.Bool.{Bool, true, false, cond}
 use mathlib.Core.Logic.{◌⊎◌, inl, inr}
 use mathlib.Core.List.{List, [], ◌∷◌}
-use mathlib.Core.Option.{none}
 use native.Mathlib.Omega.{arith}
 use lib.ListN.{length}
 use lib.Dec.{ltb}
-use Rattle.answers.specs.Numbers.{NoRoom, refused, done}
+use Rattle.std.specs.Prelude.{Some, None}
+use Rattle.answers.specs.Numbers.{refused, done}
+use Rattle.answers.specs.declared.Refusal.TheVariants.{NoRoom}
 use Rattle.answers.specs.Answers.{Written, written}
 use Rattle.key_order.specs.Order.{Key}
-use Rattle.hash_tree.specs.declared.Rebuilt.{Rebuilt}
+use Rattle.answers.specs.Answers.{Digested}
 use Rattle.hash_tree.specs.HashTree.{HashTree}
 use Rattle.hash_tree.specs.Written.{write, Lawful, max_depth}
 use Rattle.hash_tree.specs.Parse.{Parsed, Got, Bad, parse, Bytes}
@@ -77,8 +78,8 @@ files-merge v w out bv bw z e =
           })),
     )
 
-refused_none : (z : Parsed) → alone z ≡ whole-tree.refused → whole z ≡ none
-refused_none (Got t []) e = absurd (omega (arith, ap (λ (r : Rebuilt). r.number) e))
+refused_none : (z : Parsed) → alone z ≡ whole-tree.refused → whole z ≡ None
+refused_none (Got t []) e = absurd (omega (arith, ap (λ (r : Digested). r.number) e))
 refused_none (Got t (x ∷ rest)) e = refl
 refused_none Bad e = refl
 
@@ -87,7 +88,7 @@ not-nine : (v w out : List ℕ) → (merge_answer v w out).number ≡ 15 → (re
 unfolding merge_answer rebuilt
 not-nine v w out e = go (zero-or-refused v)
   where
-    nine : whole (parse max_depth v) ≡ none → (merge_answer v w out).number ≡ 9
+    nine : whole (parse max_depth v) ≡ None → (merge_answer v w out).number ≡ 9
     nine i = rw i
 
     go : ((rebuilt v).number ≡ 0) ⊎ (rebuilt v ≡ whole-tree.refused) → (rebuilt v).number ≡ 0
@@ -113,14 +114,14 @@ pub record JoinsTrue (s v w out : List ℕ) : Type 0 where
   pub tree : HashTree
   pub answer : merge_answer v w out ≡ put_front out (write tree)
   pub truth : Truth s tree (write tree)
-  pub known : (k : Key) → length k ≤ 48 → (lookup_answer k (write tree)).looked ≡ looked.Unknown
-      → ((lookup_answer k v).looked ≡ looked.Unknown) × ((lookup_answer k w).looked ≡ looked.Unknown)
+  pub known : (k : Key) → length k ≤ 48 → (lookup_answer k (write tree)).looked ≡ Some looked.Unknown
+      → ((lookup_answer k v).looked ≡ Some looked.Unknown) × ((lookup_answer k w).looked ≡ Some looked.Unknown)
   pub never15 : (merge_answer v w out).number ≡ 15 → ⊥
 
 -- of a file by the tree that it is
 silent-in : (v : List ℕ) (x t : HashTree) → Reads v x → WellFormed x → Prunes x t → Lawful max_depth t → WellFormed t → (k : Key)
     → length k ≤ 48
-    → (lookup_answer k (write t)).looked ≡ looked.Unknown → (lookup_answer k v).looked ≡ looked.Unknown
+    → (lookup_answer k (write t)).looked ≡ Some looked.Unknown → (lookup_answer k v).looked ≡ Some looked.Unknown
 silent-in v x t r wx p l wt k n e = rw r.0 (silent-too x t p r.1 l wx wt k n e)
 
 pub truths-merge : (s : List ℕ) → Sound s → (x y : HashTree) (v w : List ℕ) → Truth s x v → Truth s y w → (out : List ℕ) → JoinsTrue s v w out

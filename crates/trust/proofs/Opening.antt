@@ -4,6 +4,7 @@ use mathlib.Core.Path.{◌≡◌, refl, sym, ap, subst, ◌∙◌}
 use mathlib.Core.Logic.{inl, inr}
 use mathlib.Core.List.{List, [], ◌∷◌, ◌++◌, append_assoc, append-nil}
 use lib.ListN.{length}
+use Rattle.std.specs.Prelude.{Option, Some, None}
 use Rattle.key_order.specs.Order.{Key}
 use Rattle.hash_tree.specs.HashTree.{HashTree, Empty, Fork, Labeled, Leaf, Pruned}
 use Rattle.hash_tree.specs.Written.{write, Lawful, max_depth}
@@ -90,15 +91,15 @@ module _ (k : Key) (L M : List HashTree) (c : Opens L M) where
 -- ---- in lookup's words
 
 -- an answer that is so of the list: Unknown, or the reader learns whether k is there
-known-or : (k : Key) (w : List ℕ) (L : List HashTree) (y : Looked) → Says k w L y → (Known k L → y ≡ looked.Unknown) → y ≡ looked.Unknown
-known-or k w L (looked.Found n m) h f = f (inl (h.0, h.1))
-known-or k w L looked.Absent h f = f (inr h.0)
-known-or k w L looked.Unknown h f = refl
-known-or k w L looked.Nothing h f = absurd h
+known-or : (k : Key) (w : List ℕ) (L : List HashTree) (y : Option Looked) → Says k w L y → (Known k L → y ≡ Some looked.Unknown) → y ≡ Some looked.Unknown
+known-or k w L (Some (looked.Found n m)) h f = f (inl (h.0, h.1))
+known-or k w L (Some looked.Absent) h f = f (inr h.0)
+known-or k w L (Some looked.Unknown) h f = refl
+known-or k w L None h f = absurd h
 
 module _ (u t : HashTree) (p : Prunes u t) (lu : Lawful max_depth u) (lt : Lawful max_depth t) (wu : WellFormed u) (wt : WellFormed t) (k : Key) (n : length k ≤ 48) where
   -- where the one that is cut less is silent of a key, so is the one that is cut more
-  pub silent-too : (lookup_answer k (write t)).looked ≡ looked.Unknown → (lookup_answer k (write u)).looked ≡ looked.Unknown
+  pub silent-too : (lookup_answer k (write t)).looked ≡ Some looked.Unknown → (lookup_answer k (write u)).looked ≡ Some looked.Unknown
   silent-too e =
       known-or k (write u) (flatten u) (lookup_answer k (write u)).looked (says-answered k u n lu wu)
       (λ c. absurd (known-answered k t n lt wt (opens-known k (flatten u) (flatten t) (prunes-opens p) c) e))

@@ -1,28 +1,30 @@
 -- What each call has to answer, by the tests that the code makes.
 use mathlib.Core.Path.{◌≡◌, refl, sym, ap, subst, ◌∙◌}
 use mathlib.Core.Bool.{Bool, true, false, not, ◌||◌}
-use mathlib.Core.List.{List, [], ◌∷◌, ◌++◌, append-nil}
+use mathlib.Core.List.{List}
 use Prim.Native.Nat.{ℕ, ◌≤◌, ◌<◌}
 use native.Mathlib.Omega.{arith}
 use lib.Dec.{eqb, ltb}
-use lib.ListN.{length, take, drop, replicate}
-use lib.Seq.{take_all}
+use lib.ListN.{length}
 use borrow.Author.Tests.{eq-eqb, ne_eqb, lt-ltb, le-ltb}
 use Rattle.hash_tree.specs.HashTree.{empty_hash}
 use Rattle.slots.specs.declared.Header.{Header}
-use Rattle.slots.specs.Layout.{current, store_length, header, digest_of, zeros}
+use Rattle.slots.proofs.Lenses.{digest-length}
+use Rattle.judge.proofs.Testing.{has-slot}
+use Rattle.slots.specs.Layout.{HasSlot, current, store_length, header, digest_of}
 use Rattle.llrb.specs.Tree.{Tree, nil, node, size}
 use Rattle.llrb.specs.Digests.{subtree_digest}
-use Rattle.store.specs.Numbers.{NotSound, BadCapacity, refused, done}
+use Rattle.answers.specs.declared.Refusal.TheVariants.{NotSound, BadCapacity}
+use Rattle.store.specs.Numbers.{refused, done}
 use Rattle.store.specs.Model.{Model, root, fresh}
 use Rattle.store.specs.Sound.{Digests, Sound}
 use Rattle.store.specs.Encode.{encode}
 use Rattle.store.specs.Answers as answers
 use Rattle.store.specs.Calls.{refuse, create_answer, count_answer, is_empty_answer, root_hash_answer}
-use Rattle.store.proofs.Decoding.{on-sound, on-unsound}
+use Rattle.store.proofs.Decoding.{on-sound}
 use Rattle.store.proofs.Seats.{marks-digests}
 use Rattle.judge.specs.Steps.{Within}
-use Rattle.judge.proofs.Judging.{good_of}
+use Rattle.judge.proofs.Judging.{good_of, header_of}
 use Rattle.judge.proofs.Walking.{root-within as top_within}
 use Rattle.answers.specs.Answers.{changed_of}
 
@@ -54,21 +56,6 @@ module _ (c : ℕ) (s : List ℕ) where
   unfolding create_answer
   created n p e = rw (ne_eqb c 0 n, le-ltb 1024 c p, eq-eqb (length s) (store_length c) e)
 
--- ---- of a store that is not sound
-
-module _ {s : List ℕ} (n : Sound s → ⊥) where
-  pub count-refused : ◌≡◌ {A = answers.Counted} (record { number = 1; count = 0 }) (count_answer s)
-  unfolding count_answer
-  count-refused = sym (ap answers.counted (on-unsound n (λ (m : Model). done (size m.tree)) (refused NotSound)))
-
-  pub empty-refused : ◌≡◌ {A = answers.Told} (record { number = 1; yes = false }) (is_empty_answer s)
-  unfolding is_empty_answer
-  empty-refused = sym (ap answers.told (on-unsound n (λ (m : Model). done (eqb (size m.tree) 0)) (refused NotSound)))
-
-  pub root-refused : ◌≡◌ {A = answers.Digested} (record { number = 1; digest = replicate 32 0 }) (root_hash_answer s)
-  unfolding root_hash_answer zeros
-  root-refused = sym (ap answers.digested (on-unsound n (λ (m : Model). done (subtree_digest m.tree)) (refused NotSound)))
-
 -- ---- of a sound store, h the header that the code read
 
 module _ (s : List ℕ) (a : Sound s) {h : Header} (e : h ≡ header s) where
@@ -78,11 +65,11 @@ module _ (s : List ℕ) (a : Sound s) {h : Header} (e : h ≡ header s) where
   root_is : h.root ≡ root a.0.tree
   root_is = ap (λ (z : Header). z.root) (e ∙ a.1.laid.header)
 
-  pub count-done : ◌≡◌ {A = answers.Counted} (record { number = 0; count = h.live }) (count_answer s)
+  pub count-done : answers.counted (done h.live) ≡ count_answer s
   unfolding count_answer
   count-done = ap (λ (n : ℕ). answers.counted (done n)) live-is ∙ sym (ap answers.counted (on-sound a.1 (λ (m : Model). done (size m.tree)) (refused NotSound)))
 
-  pub empty-done : ◌≡◌ {A = answers.Told} (record { number = 0; yes = eqb h.live 0 }) (is_empty_answer s)
+  pub empty-done : answers.told (done (eqb h.live 0)) ≡ is_empty_answer s
   unfolding is_empty_answer
   empty-done = ap (λ (n : ℕ). answers.told (done (eqb n 0))) live-is ∙ sym (ap answers.told (on-sound a.1 (λ (m : Model). done (eqb (size m.tree) 0)) (refused NotSound)))
 
@@ -102,26 +89,21 @@ module _ (s : List ℕ) (a : Sound s) {h : Header} (e : h ≡ header s) where
         go nil d x = absurd (x refl)
         go (node o n l r) d x = d.0
 
-  found : {d : List ℕ} → d ≡ subtree_digest a.0.tree → ◌≡◌ {A = answers.Digested} (record { number = 0; digest = d }) (root_hash_answer s)
+  found : {d : List ℕ} → d ≡ subtree_digest a.0.tree → answers.digested (done d) ≡ root_hash_answer s
   unfolding root_hash_answer
   found x = ap (λ (z : List ℕ). answers.digested (done z)) x ∙ sym (ap answers.digested (on-sound a.1 (λ (m : Model). done (subtree_digest m.tree)) (refused NotSound)))
 
-  pub root_none : h.root ≡ 0 → {d : List ℕ} → d ≡ empty_hash → ◌≡◌ {A = answers.Digested} (record { number = 0; digest = d }) (root_hash_answer s)
+  pub root_none : h.root ≡ 0 → {d : List ℕ} → d ≡ empty_hash → answers.digested (done d) ≡ root_hash_answer s
   root_none x y = found (y ∙ none_is a.0.tree (header s).capacity (good_of s a).within (sym root_is ∙ x))
 
-  pub root-some : (h.root ≡ 0 → ⊥) → {d : List ℕ} → d ≡ digest_of s h.root → ◌≡◌ {A = answers.Digested} (record { number = 0; digest = d }) (root_hash_answer s)
+  pub root-some : (h.root ≡ 0 → ⊥) → {d : List ℕ} → d ≡ digest_of s h.root → answers.digested (done d) ≡ root_hash_answer s
   root-some n y = found (y ∙ ap (digest_of s) root_is ∙ some_is a.0.tree 0 (marks-digests current s a.0.tree a.1.laid.marks) (λ z. n (root_is ∙ z)))
 
   pub root-within : h.root ≤ (header s).capacity
   root-within = subst (λ (z : ℕ). z ≤ (header s).capacity) (sym root_is) (top_within (header s).capacity a.0.tree (good_of s a).within)
 
--- ---- a digest copied
+  pub root-there : (h.root ≡ 0 → ⊥) → HasSlot (length s) h.root
+  root-there n = has-slot (header_of s a).sized (omega (arith, n)) root-within
 
-drop_past : (x y : List ℕ) → length y ≤ length x → drop (length x) y ≡ []
-drop_past [] [] p = refl
-drop_past [] (b ∷ y) p = absurd (omega arith)
-drop_past (a ∷ x) [] p = refl
-drop_past (a ∷ x) (b ∷ y) p = drop_past x y (omega arith)
-
-pub copied : (x y r : List ℕ) → length y ≤ length x → r ≡ take (length x) x ++ drop (length x) y → r ≡ x
-copied x y r p e = e ∙ (λ i. take_all (length x) x (omega arith) i ++ drop_past x y p i) ∙ append-nil x
+  pub root-length : (h.root ≡ 0 → ⊥) → length (digest_of s h.root) ≡ 32
+  root-length n = digest-length s h.root (root-there n)

@@ -1,9 +1,9 @@
 -- The bytes that `create` writes are those of a fresh model, whatever they were.
-use mathlib.Core.Path.{◌≡◌, refl, sym, ap, ◌∙◌}
+use mathlib.Core.Path.{◌≡◌, refl, sym, ap, subst, ◌∙◌}
 use mathlib.Core.Bool.{Bool, true, false}
 use mathlib.Core.Logic.{◌≢◌}
 use mathlib.Core.List.{List}
-use Prim.Native.Nat.{ℕ, zero, suc, ◌+◌, ◌≤◌, ◌<◌}
+use Prim.Native.Nat.{ℕ, zero, suc, ◌+◌, ◌-◌, ◌≤◌, ◌<◌}
 use native.Mathlib.Omega.{arith}
 use lib.Dec.{eqb, lit<}
 use lib.ListN.{length}
@@ -78,6 +78,12 @@ module _ {cap : ℕ} (most : cap ≤ 1024) {s : List ℕ} {n : ℕ} (a : Chained
           slots = λ j l q. (by j l q (eqb j (n + 1)) refl).0;
           marks = λ j l q. (by j l q (eqb j (n + 1)) refl).1;
         }
+
+-- the slot x freed, after those before it
+pub chained-to : {cap : ℕ} → cap ≤ 1024 → {s s' : List ℕ} {x y : ℕ} → Chained cap s (x - 1) → 1 ≤ x → x ≤ cap → y ≡ next_of cap x → s' ≡ clear_slot s x y → Chained cap s' x
+chained-to {cap} most {s} {s'} {x} {y} a l m ey e =
+    let q : x - 1 + 1 ≡ x = omega arith in
+    subst (Chained cap s') q (chained-next most a (omega arith) (ey ∙ ap (next_of cap) (sym q)) (e ∙ ap (λ (z : ℕ). clear_slot s z y) (sym q)))
 
 -- ---- the header at last
 

@@ -2,28 +2,25 @@
 #![tactic(auto)]
 
 ghost use Rattle.std.specs.Prelude.{◌≡◌, ◌≤◌, length};
-ghost use Rattle.slots.specs.Layout.{HasSlot, digest_of};
 ghost use Rattle.store.specs.Model.{fresh};
 ghost use Rattle.store.specs.Sound.{Sound};
 ghost use Rattle.store.specs.Encode.{encode};
 ghost use Rattle.store.specs.Calls.{create_answer, count_answer, is_empty_answer, root_hash_answer};
 ghost use Rattle.judge.specs.Steps.{Sized};
-ghost use Rattle.answers.specs.Answers.{changed_of};
+ghost use Rattle.answers.specs.Numbers.{done};
+ghost use Rattle.answers.specs.Answers.{changed_of, number_in, counted, told, digested};
 ghost use Rattle.whole_store.specs.Fresh.{next_of};
 
-use answers::{BAD_CAPACITY, Counted, Digested, MAX_CAPACITY, Told};
+use answers::{MAX_CAPACITY, Refusal};
 use hash_tree::empty_hash;
-use slots::{EDITION, Header};
+use slots::{EDITION, Header, header_of, store_length};
 
 // The slot after `x` in the chain.
 fn next(cap: usize, x: usize) -> usize
     requires { x ≤ 1024 }
     ensures { result ≡ next_of cap x }
 {
-    if x == cap {
-        return 0;
-    }
-    x + 1
+    if x == cap { 0 } else { x + 1 }
 }
 
 // A fresh store, whatever the bytes were.
@@ -32,12 +29,8 @@ fn lay(s: &mut [u8], cap: usize)
     requires sized { Sized (length s.old) cap }
     ensures { s.new ≡ encode (fresh cap) }
 {
-    let mut i = 0;
-    while i < cap {
-        let x = i + 1;
-        let y = next(cap, x);
-        slots::clear_slot(s, x, y);
-        i = x;
+    for x in 1..=cap {
+        slots::clear_slot(s, x, next(cap, x));
     }
     slots::set_header(
         s,
@@ -52,74 +45,49 @@ fn lay(s: &mut [u8], cap: usize)
     );
 }
 
-// Makes the buffer a fresh store: 0, or 8 where capacity or length are wrong. Any capacity may arrive.
-pub fn create(s: &mut [u8], capacity: u64) -> usize
-    ensures { changed_of result s.new ≡ create_answer capacity s.old }
+// Makes the buffer a fresh store; 8 where capacity or length are wrong. Any capacity may arrive.
+pub fn create(s: &mut [u8], capacity: u64) -> Result<(), Refusal>
+    ensures { changed_of (number_in result) s.new ≡ create_answer capacity s.old }
 {
-    if capacity == 0 {
-        return BAD_CAPACITY;
-    }
-    if (MAX_CAPACITY as u64) < capacity {
-        return BAD_CAPACITY;
+    if capacity == 0 || (MAX_CAPACITY as u64) < capacity {
+        return Err(Refusal::BadCapacity);
     }
     let cap = capacity as usize;
-    if s.len() != 8 + 150 * cap {
-        return BAD_CAPACITY;
+    if s.len() != store_length(cap) {
+        return Err(Refusal::BadCapacity);
     }
     lay(s, cap);
-    0
+    Ok(())
 }
 
-// ---- of a sound store
+// ---- of a sound store. It is plain bytes, here and in search, rb_tree, witness and difference: a type of its own would ask more of callers.
 
 // The number of entries.
-pub fn count(s: &[u8]) -> Counted
+pub fn count(s: &[u8]) -> usize
     requires { Sound s.now }
-    ensures { result ≡ count_answer s.now }
+    ensures { counted (done result) ≡ count_answer s.now }
 {
-    let h = slots::header_of(s);
-    Counted {
-        number: 0,
-        count: h.live,
-    }
+    header_of(s).live
 }
 
 // Whether there is no entry.
-pub fn is_empty(s: &[u8]) -> Told
+pub fn is_empty(s: &[u8]) -> bool
     requires { Sound s.now }
-    ensures { result ≡ is_empty_answer s.now }
+    ensures { told (done result) ≡ is_empty_answer s.now }
 {
-    let h = slots::header_of(s);
-    Told {
-        number: 0,
-        yes: h.live == 0,
-    }
-}
-
-fn stored_digest(s: &[u8], i: usize) -> [u8; 32]
-    requires { HasSlot (length s.now) i }
-    ensures { result ≡ digest_of s.now i }
-{
-    let mut d = [0u8; 32];
-    d.copy_from_slice(slots::digest(s, i));
-    d
+    let h = header_of(s);
+    h.live == 0
 }
 
 // The digest of the whole map.
-pub fn root_hash(s: &[u8]) -> Digested
+pub fn root_hash(s: &[u8]) -> [u8; 32]
     requires { Sound s.now }
-    ensures { result ≡ root_hash_answer s.now }
+    ensures { digested (done result) ≡ root_hash_answer s.now }
 {
-    let h = slots::header_of(s);
-    let root = h.root;
+    let root = header_of(s).root;
     if root == 0 {
-        return Digested {
-            number: 0,
-            digest: empty_hash(),
-        };
-    }
-    Digested {
-        number: 0,
-        digest: stored_digest(s, root),
+        empty_hash()
+    } else {
+        slots::digest(s, root).try_into().unwrap()
     }
 }

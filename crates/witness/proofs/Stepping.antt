@@ -1,4 +1,5 @@
 -- A node of the tree that is written: what is known at it, its five runs of bytes, and that the entries below it grow fewer.
+use Rattle.std.specs.Prelude.{Option, Some, None, SomeIff}
 use Prim.Native.Nat.{ℕ, ◌+◌, ◌≤◌, ◌<◌}
 use mathlib.Core.Path.{◌≡◌, refl, sym, ap, ◌∙◌}
 use mathlib.Core.Bool.{Bool}
@@ -23,16 +24,16 @@ use Rattle.witness_walks.specs.declared.Arm.{Arm}
 use Rattle.witness_walks.specs.declared.Shape.{Shape}
 use Rattle.witness_walks.specs.declared.Shape.TheVariants.{M, ForkLM, ForkMR, ForkLPrunedMR, ForkLForkMR}
 use Rattle.witness_walks.specs.declared.Records.{Records}
-use Rattle.witness_walks.specs.Arms.{slot_of, arms_at}
+use Rattle.search.specs.Search.{slot_of}
+use Rattle.witness_walks.specs.Arms.{arms_at}
 use Rattle.witness_walks.specs.Records.{kind_of_part, kind_of_what, shape_of, records_of, records_at}
 use Rattle.witness_walks.specs.Walked.{fork_bytes, part_bytes}
 use Rattle.witness_walks.specs.InStore.{key_in, BoundsIn, PartIn, records_in, middle_in, MiddleAt, hidden_in, HiddenAt}
 use Rattle.witness_walks.proofs.Laying.{records-held, middle-held, hidden_held}
 use Rattle.witness_trees.proofs.Lists.{arms}
-use Rattle.output.specs.declared.Room.{Room}
-use Rattle.output.specs.Putting.{Puts, room_after}
+use Rattle.output.specs.Putting.{Puts}
 use Rattle.witness.specs.Putting.{Laid, bytes_below}
-use Rattle.output.proofs.Putting.{puts_then, puts-length, room-then}
+use Rattle.output.proofs.Putting.{puts_then, puts-length}
 
 -- ---- the bounds go down with the walk
 
@@ -69,23 +70,18 @@ parts_in s n w f b = records-in s (arms_at (key_in s) w f (key_in s n)) (eqb (sl
 abbrev pub five : (a b c d e : List ℕ) → List ℕ
 five a b c d e = a ++ (b ++ (c ++ (d ++ e)))
 
-pub room-five : (a b c d e : List ℕ) (r : Room)
-    → room_after (length e) (room_after (length d) (room_after (length c) (room_after (length b) (room_after (length a) r)))) ≡ room_after (length (five a b c d e)) r
-room-five a b c d e r =
-    more d e (room_after (length c) (room_after (length b) (room_after (length a) r)))
-    ∙ more c (d ++ e) (room_after (length b) (room_after (length a) r))
-    ∙ more b (c ++ (d ++ e)) (room_after (length a) r)
-    ∙ more a (b ++ (c ++ (d ++ e))) r
-  where
-    more : (u v : List ℕ) (q : Room) → room_after (length v) (room_after (length u) q) ≡ room_after (length (u ++ v)) q
-    more u v q = room-then (length u) (length v) q ∙ ap (λ k. room_after k q) (sym (length-append u v))
-
 -- there is room for the front, and after it for the rest
 pub front : (at n : ℕ) (u v : List ℕ) → at + length (u ++ v) ≤ n → at + length u ≤ n
 front at n u v h = omega (arith, length-append u v)
 
 pub rest : {o o' : List ℕ} {at x : ℕ} (u v : List ℕ) → Puts o o' at x u → at + length (u ++ v) ≤ length o → x + length v ≤ length o'
 rest u v p h = omega (arith, length-append u v, puts-length u p, p.place)
+
+-- ---- what is left of a room, if there is enough
+
+pub same-left : (r : Option ℕ) {P Q : Type 0} {v w : ℕ} → SomeIff r P v → (P → Q) → (Q → P) → (P → v ≡ w) → SomeIff r Q w
+same-left None h f g e = λ q. h (g q)
+same-left (Some x) h f g e = (f h.0, h.1 ∙ e h.0)
 
 -- ---- no node
 
@@ -157,16 +153,9 @@ module _ {s : List ℕ} {n : ℕ} (ne : n ≡ 0 → ⊥) (w : Walk) (f : What) (
   pub runs-bytes : bytes_below s f (Walked w) t ≡ runs s n f x t
   runs-bytes = node-bytes ne t L w f ∙ ap (λ (y : Records). runs s n f y t) (sym ex)
 
-  pub fit-node : (room : Room) {a b c d r : Room} {i j k : ℕ}
-      → i ≡ length (fork_bytes x.outer) → a ≡ room_after i room
-      → b ≡ room_after (length (bytes_below s f x.left (left t))) a
-      → j ≡ length (fork_bytes x.inner) → c ≡ room_after j b
-      → k ≡ length (middle_in s n x.middle) → d ≡ room_after k c
-      → r ≡ room_after (length (bytes_below s f x.right (right t))) d
-      → r ≡ room_after (length (bytes_below s f (Walked w) t)) room
-  fit-node room e₁ e₂ e₃ e₄ e₅ e₆ e₇ e₈ =
-      e₈ ∙ rw (e₇, e₆, e₅, e₄, e₃, e₂, e₁, runs-bytes)
-      (room-five (fork_bytes x.outer) (bytes_below s f x.left (left t)) (fork_bytes x.inner) (middle_in s n x.middle) (bytes_below s f x.right (right t)) room)
+  pub node-length : length (bytes_below s f (Walked w) t)
+      ≡ length (fork_bytes x.outer) + (length (bytes_below s f x.left (left t)) + (length (fork_bytes x.inner) + (length (middle_in s n x.middle) + length (bytes_below s f x.right (right t)))))
+  node-length = rw runs-bytes (simp length-append)
 
   pub write-node : {o o₁ o₂ o₃ o₄ o₅ : List ℕ} {at a b c d r : ℕ}
       → Puts o o₁ at a (fork_bytes x.outer) → Puts o₁ o₂ a b (bytes_below s f x.left (left t)) → Puts o₂ o₃ b c (fork_bytes x.inner)

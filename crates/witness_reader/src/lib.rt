@@ -1,11 +1,13 @@
 // A witness and a place in it: a struct that holds the slice, for reading record after record, parent first.
-// The work is done in hash_tree; each function here takes the struct apart.
+// The work is done in hash_tree; each function here takes the struct apart. (a) docs/ARCHITECTURE.md names the five plain functions, so
+// they stay beside the iterator.
 #![tactic(auto)]
 
-ghost use Rattle.std.specs.Prelude.{◌≡◌, drop};
+ghost use Rattle.std.specs.Prelude.{◌≡◌, ◌-◌, false, length, drop};
+ghost use Rattle.std.specs.Iterator.{at_most};
 ghost use Rattle.hash_tree.specs.Record.{record_of, place_after};
 
-use hash_tree::Record;
+use hash_tree::{Kind, Record};
 
 #[derive(Clone, Copy)]
 pub struct Witness<'a> {
@@ -19,8 +21,8 @@ pub fn open<'a>(src: &'a [u8], at: usize) -> Witness<'a>
     Witness { src, at }
 }
 
-// The record that stands at the place.
-pub fn here<'a>(w: Witness<'a>) -> Record
+// The record that stands at the place; none if it is malformed.
+pub fn here<'a>(w: Witness<'a>) -> Option<Record>
     ensures { result ≡ record_of (drop w.entry.at w.entry.src.now) }
 {
     hash_tree::record_at(w.src, w.at)
@@ -35,7 +37,7 @@ pub fn next<'a>(w: Witness<'a>) -> Witness<'a>
 }
 
 // The record at a place of a plain slice, and the place after it: whoever calls these needs no struct.
-pub fn record_from(src: &[u8], at: usize) -> Record
+pub fn record_from(src: &[u8], at: usize) -> Option<Record>
     ensures { result ≡ record_of (drop at src.now) }
 {
     here(open(src, at))
@@ -46,4 +48,72 @@ pub fn place_after(src: &[u8], at: usize) -> usize
 {
     let w = next(open(src, at));
     w.at
+}
+
+// ---- record after record
+
+// A record of a witness: its place, its kind, its own bytes, whether it stands under a label, and the place after it.
+#[derive(Clone, Copy)]
+pub struct Shown<'a> {
+    pub at: usize,
+    pub kind: Kind,
+    pub bytes: &'a [u8],
+    pub labeled: bool,
+    pub end: usize,
+}
+
+// What is left of a witness: its records from a place on, each once, up to the first that is malformed; and whether the record before
+// them is a label.
+#[derive(Drop)]
+pub struct Records<'a> {
+    pub src: &'a [u8],
+    pub at: usize,
+    labeled: bool,
+}
+
+impl<'a> Records<'a> {
+    pub fn new(src: &'a [u8]) -> Records<'a>
+        ensures src { result.src ≡ src.entry }
+        ensures start { (result.at ≡ 0) × (result.labeled ≡ false) }
+    {
+        Records::starting_at(src, 0)
+    }
+
+    pub fn starting_at(src: &'a [u8], at: usize) -> Records<'a>
+        ensures src { result.src ≡ src.entry }
+        ensures start { (result.at ≡ at) × (result.labeled ≡ false) }
+    {
+        Records {
+            src,
+            at,
+            labeled: false,
+        }
+    }
+}
+
+impl<'a> Iterator for Records<'a> {
+    ghost use Rattle.witness_reader.specs.Shown.{StepsTo};
+
+    type Item = Shown<'a>;
+
+    ghost next_gives = { StepsTo };
+
+    ghost remaining = { λ s. at_most (length s.src.now - s.at) };
+
+    fn next(&mut self) -> Option<Shown<'a>> {
+        let Record { kind, len } = hash_tree::record_at(self.src, self.at)?;
+        let at = self.at;
+        let from = at + 2;
+        let end = from + len;
+        let labeled = self.labeled;
+        self.at = end;
+        self.labeled = kind == Kind::Labeled;
+        Some(Shown {
+            at,
+            kind,
+            bytes: &self.src[from..end],
+            labeled,
+            end,
+        })
+    }
 }

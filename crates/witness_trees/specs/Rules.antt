@@ -1,7 +1,7 @@
 -- What each call is to show, in the words of document 01 and from the list of keys alone.
 use Rattle.std.specs.Prelude.{◌≡◌, Bool, true, false, not, cond, ◌&&◌, ◌||◌, List, [], ◌∷◌, ◌+◌, ◌*◌, ◌≤◌}
 use Rattle.std.proofs.Math.Option.{Option, none, some}
-use Rattle.key_order.specs.declared.Ordering.TheVariants.{Less}
+use Rattle.std.specs.declared.cmp.Ordering.TheVariants.{Less}
 use Rattle.key_order.specs.Order.{Key, cmp, pick, is_prefix_of}
 use Rattle.hash_tree.specs.HashTree.{HashTree, digest}
 use Rattle.llrb.specs.Tree.{Value, Entry, Tree}

@@ -15,7 +15,7 @@ use Rattle.witness_trees.proofs.Lists.{lt-irr}
 use Rattle.witness_trees.proofs.Calls.{Present, low-present, high-present, past-present, bounds-in-order, prefix-in-order}
 use Rattle.witness_walks.specs.declared.Walk.{Walk}
 use Rattle.witness_walks.specs.declared.Walk.TheVariants.{Full, Above, Below, Between, Lookup}
-use Rattle.witness_walks.specs.Arms.{slot_of}
+use Rattle.search.specs.Search.{slot_of}
 use Rattle.witness_walks.specs.Bounds.{range_walk}
 use Rattle.witness_walks.specs.Walked.{showing}
 use Rattle.witness_walks.specs.Met.{Meets, here, on-left, on-right, Outside, Never}

@@ -29,7 +29,8 @@ use Rattle.witness_walks.specs.declared.Part.{Part}
 use Rattle.witness_walks.specs.declared.Part.TheVariants.{Nothing, Hidden, Walked}
 use Rattle.witness_walks.specs.declared.Arm.{Arm}
 use Rattle.witness_walks.specs.declared.Kind.TheVariants.{Other}
-use Rattle.witness_walks.specs.Arms.{slot_of, seen_at, both_seen, arms_at}
+use Rattle.witness_walks.specs.Arms.{seen_at, both_seen, arms_at}
+use Rattle.search.specs.Search.{slot_of}
 use Rattle.witness_walks.specs.Records.{is_pruned as kind_pruned, kind_of_part, kind_of_what}
 use Rattle.witness_walks.specs.Walked.{what_of, showing, joined, part_tree}
 use Rattle.witness_walks.specs.Met.{Three}

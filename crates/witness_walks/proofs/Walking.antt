@@ -2,8 +2,8 @@
 use mathlib.Core.Path.{◌≡◌, refl}
 use mathlib.Core.Option.{Option, none, some}
 use Prim.Native.Nat.{ℕ}
-use Rattle.key_order.specs.declared.Ordering.{Ordering}
-use Rattle.key_order.specs.declared.Ordering.TheVariants.{Less, Equal, Greater}
+use Rattle.std.specs.declared.cmp.Ordering.{Ordering}
+use Rattle.std.specs.declared.cmp.Ordering.TheVariants.{Less, Equal, Greater}
 use Rattle.key_order.specs.Order.{Key, cmp, pick}
 use Rattle.key_order.proofs.Laws.{gt-lt}
 use Rattle.hash_tree.specs.HashTree.{HashTree}
@@ -19,7 +19,8 @@ use Rattle.witness_walks.specs.declared.Part.{Part}
 use Rattle.witness_walks.specs.declared.Arm.{Arm}
 use Rattle.witness_walks.specs.declared.Part.TheVariants.{Hidden, Walked}
 use Rattle.witness_walks.specs.declared.Walk.TheVariants.{Full, Above, Below, Between, Lookup}
-use Rattle.witness_walks.specs.Arms.{slot_of, seen_at, both_seen}
+use Rattle.witness_walks.specs.Arms.{seen_at, both_seen}
+use Rattle.search.specs.Search.{slot_of}
 use Rattle.search.specs.Search.{key_bound_slot}
 use Rattle.witness_walks.specs.Bounds.{range_walk}
 use Rattle.witness_walks.specs.Walked.{what_of, showing, joined, part_tree}

@@ -1,8 +1,9 @@
 -- What each walk of the Rust does at a node, by how the node's key stands to the bounds' keys: what becomes of its left side, of its
 -- entry and of its right side. A bound is named by its slot; `K` gives the key of a slot.
 use Rattle.std.specs.Prelude.{ℕ}
-use Rattle.key_order.specs.declared.Ordering.{Ordering}
+use Rattle.std.specs.declared.cmp.Ordering.{Ordering}
 use Rattle.key_order.specs.Order.{Key, cmp, pick}
+use Rattle.search.specs.Search.{slot_of}
 use Rattle.search.specs.declared.KeyBound.{KeyBound}
 use Rattle.search.specs.declared.KeyBound.TheVariants.{Exact, Neighbor}
 use Rattle.witness_walks.specs.declared.Walk.{Walk}
@@ -12,11 +13,6 @@ use Rattle.witness_walks.specs.declared.What.TheVariants.{Hide, Label, Show}
 use Rattle.witness_walks.specs.declared.Part.{Part}
 use Rattle.witness_walks.specs.declared.Part.TheVariants.{Hidden, Walked}
 use Rattle.witness_walks.specs.declared.Arm.{Arm}
-
--- `lo.as_ref()`, by its slot
-abbrev pub slot_of : KeyBound → ℕ
-slot_of (Exact i) = i
-slot_of (Neighbor i) = i
 
 -- a bound's own entry: a Neighbor always with a Pruned value
 abbrev pub seen_at : KeyBound → What → What

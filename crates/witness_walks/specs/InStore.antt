@@ -16,7 +16,8 @@ use Rattle.witness_walks.specs.declared.Part.TheVariants.{Nothing, Hidden, Walke
 use Rattle.witness_walks.specs.declared.Middle.{Middle}
 use Rattle.witness_walks.specs.declared.Middle.TheVariants.{Entry, Both}
 use Rattle.witness_walks.specs.declared.Records.{Records}
-use Rattle.witness_walks.specs.Arms.{slot_of, arms_at}
+use Rattle.witness_walks.specs.Arms.{arms_at}
+use Rattle.search.specs.Search.{slot_of}
 use Rattle.witness_walks.specs.Records.{records_at}
 use Rattle.witness_walks.specs.Walked.{what_of}
 

@@ -1,6 +1,6 @@
 -- The nodes that a walk meets, and what an auditor asks of them: request Q-6.
 use Rattle.std.specs.Prelude.{◌≡◌, Bool, false, ℕ}
-use Rattle.key_order.specs.declared.Ordering.TheVariants.{Greater}
+use Rattle.std.specs.declared.cmp.Ordering.TheVariants.{Greater}
 use Rattle.key_order.specs.Order.{Key, cmp}
 use Rattle.llrb.specs.Tree.{Entry, Tree, node}
 use Rattle.witness_trees.specs.Shown.{three, item}
@@ -8,7 +8,8 @@ use Rattle.witness_walks.specs.declared.Walk.{Walk}
 use Rattle.witness_walks.specs.declared.Walk.TheVariants.{Full, Above, Below, Between, Lookup}
 use Rattle.witness_walks.specs.declared.What.{What}
 use Rattle.witness_walks.specs.declared.Part.TheVariants.{Walked}
-use Rattle.witness_walks.specs.Arms.{slot_of, arms_at}
+use Rattle.witness_walks.specs.Arms.{arms_at}
+use Rattle.search.specs.Search.{slot_of}
 use Rattle.witness_walks.specs.Walked.{what_of, part_tree}
 
 -- the walk w from the tree t comes to the tree u, where it is the walk v

@@ -6,14 +6,14 @@ mod fork;
 
 ghost use Rattle.std.specs.Prelude.{◌≡◌};
 ghost use Rattle.key_order.specs.Order.{cmp};
-ghost use Rattle.search.specs.Search.{EntryAt};
-ghost use Rattle.witness_walks.specs.Arms.{seen_at, both_seen, slot_of, full_arms, above_arms, below_arms, between_arms, lookup_arms, arms_at};
+ghost use Rattle.search.specs.Search.{EntryAt, slot_of};
+ghost use Rattle.witness_walks.specs.Arms.{seen_at, both_seen, full_arms, above_arms, below_arms, between_arms, lookup_arms, arms_at};
 ghost use Rattle.witness_walks.specs.InStore.{key_in, BoundsIn, records_in};
 
 use crate::fork::{kind_of_part, kind_of_what, records_of, three_way_fork};
-use key_order::Ordering;
 use search::KeyBound;
 use slots::key;
+use std::cmp::Ordering;
 
 // Which walk of the Rust goes on below a slot.
 #[derive(Clone, Copy)]
@@ -25,7 +25,8 @@ pub enum Walk {
     Lookup(usize),
 }
 
-// What is shown of an entry: its data digest; its key and its value's digest (`witness_tree`); its key and value (`data_tree`).
+// What is shown of an entry: its data digest; its key and its value's digest (`witness_tree`); its key and value (`data_tree`). The Rust
+// passes a closure for the last two; document 01 names the choice, and `part_bytes` (specs/Walked) says what is written of each.
 #[derive(Clone, Copy)]
 pub enum What {
     Hide,
@@ -84,17 +85,9 @@ pub struct Records {
     pub right: Part,
 }
 
-// ---- bounds
+// A store and a slot's number go side by side, as in crate slots.
 
-// `lo.as_ref()`, by its slot.
-pub fn slot_of(b: KeyBound) -> usize
-    ensures { result ≡ slot_of b }
-{
-    match b {
-        KeyBound::Exact(i) => i,
-        KeyBound::Neighbor(i) => i,
-    }
-}
+// ---- bounds
 
 // A bound's own entry: a Neighbor always with a Pruned value.
 fn seen_at(b: KeyBound, f: What) -> What
@@ -110,13 +103,14 @@ fn seen_at(b: KeyBound, f: What) -> What
 fn both_seen(lo: KeyBound, hi: KeyBound, f: What) -> What
     ensures { result ≡ both_seen lo hi f }
 {
-    match lo {
-        KeyBound::Exact(_) => f,
-        KeyBound::Neighbor(_) => seen_at(hi, f),
+    match (lo, hi) {
+        (KeyBound::Neighbor(_), KeyBound::Neighbor(_)) => What::Label,
+        _ => f,
     }
 }
 
-// ---- the walks: what becomes of the three parts of the node in slot `n`
+// ---- the walks: what becomes of the three parts of the node in slot `n`. `above` and `below` stay two, as in the Rust: their arms are
+// read beside it.
 
 fn full_witness_tree(f: What) -> Arm
     ensures { result ≡ full_arms f }
@@ -142,7 +136,7 @@ fn witness_range_above(s: &[u8], n: usize, lo: KeyBound, f: What) -> Arm
     requires low_at { EntryAt s.now (slot_of lo) }
     ensures { result ≡ above_arms lo f (cmp (key_in s.now n) (key_in s.now (slot_of lo))) }
 {
-    match compare_keys(s, n, slot_of(lo)) {
+    match compare_keys(s, n, lo.slot()) {
         Ordering::Equal => Arm {
             left: Part::Hidden,
             middle: seen_at(lo, f),
@@ -166,7 +160,7 @@ fn witness_range_below(s: &[u8], n: usize, hi: KeyBound, f: What) -> Arm
     requires high_at { EntryAt s.now (slot_of hi) }
     ensures { result ≡ below_arms hi f (cmp (key_in s.now n) (key_in s.now (slot_of hi))) }
 {
-    match compare_keys(s, n, slot_of(hi)) {
+    match compare_keys(s, n, hi.slot()) {
         Ordering::Equal => Arm {
             left: Part::Walked(Walk::Full),
             middle: seen_at(hi, f),
@@ -185,8 +179,8 @@ fn witness_range_below(s: &[u8], n: usize, hi: KeyBound, f: What) -> Arm
     }
 }
 
-// The Rust's arms on (lo.cmp(k), k.cmp(hi)). `lo` is not above `hi`: so a key below `lo` needs no look at `hi`, and the last arm, for a
-// key below `lo` and above `hi`, is never met (proofs/Never) and is left out.
+// The Rust's arms on (lo.cmp(k), k.cmp(hi)). `lo` is not above `hi`: so a key below `lo` is below `hi`, and the last arm, for a key
+// below `lo` and above `hi`, is never met (proofs/Never) and is left out.
 fn witness_range_between(s: &[u8], n: usize, lo: KeyBound, hi: KeyBound, f: What) -> Arm
     requires entry_at { EntryAt s.now n }
     requires low_at { EntryAt s.now (slot_of lo) }
@@ -194,48 +188,35 @@ fn witness_range_between(s: &[u8], n: usize, lo: KeyBound, hi: KeyBound, f: What
     ensures { result ≡ between_arms lo hi f (cmp (key_in s.now (slot_of lo)) (key_in s.now n)) (cmp (key_in s.now n) (key_in s.now (slot_of hi))) }
 {
     let go = Part::Walked(Walk::Between(lo, hi));
-    match compare_keys(s, slot_of(lo), n) {
-        Ordering::Less => match compare_keys(s, n, slot_of(hi)) {
-            // (Less, Less)
-            Ordering::Less => Arm {
-                left: go,
-                middle: f,
-                right: go,
-            },
-            // (_, Equal)
-            Ordering::Equal => Arm {
-                left: go,
-                middle: seen_at(hi, f),
-                right: Part::Hidden,
-            },
-            // (Less, Greater)
-            Ordering::Greater => Arm {
-                left: go,
-                middle: What::Hide,
-                right: Part::Hidden,
-            },
+    match (compare_keys(s, lo.slot(), n), compare_keys(s, n, hi.slot())) {
+        (Ordering::Less, Ordering::Less) => Arm {
+            left: go,
+            middle: f,
+            right: go,
         },
-        Ordering::Equal => match compare_keys(s, n, slot_of(hi)) {
-            // (Equal, Equal)
-            Ordering::Equal => Arm {
-                left: Part::Hidden,
-                middle: both_seen(lo, hi, f),
-                right: Part::Hidden,
-            },
-            // (Equal, _)
-            Ordering::Less => Arm {
-                left: Part::Hidden,
-                middle: seen_at(lo, f),
-                right: go,
-            },
-            Ordering::Greater => Arm {
-                left: Part::Hidden,
-                middle: seen_at(lo, f),
-                right: go,
-            },
+        (Ordering::Equal, Ordering::Equal) => Arm {
+            left: Part::Hidden,
+            middle: both_seen(lo, hi, f),
+            right: Part::Hidden,
         },
-        // (Greater, Less)
-        Ordering::Greater => Arm {
+        // the Rust's (_, Equal)
+        (Ordering::Less, Ordering::Equal) => Arm {
+            left: go,
+            middle: seen_at(hi, f),
+            right: Part::Hidden,
+        },
+        (Ordering::Equal, _) => Arm {
+            left: Part::Hidden,
+            middle: seen_at(lo, f),
+            right: go,
+        },
+        (Ordering::Less, Ordering::Greater) => Arm {
+            left: go,
+            middle: What::Hide,
+            right: Part::Hidden,
+        },
+        // the Rust's (Greater, Less)
+        (Ordering::Greater, _) => Arm {
             left: Part::Hidden,
             middle: What::Hide,
             right: go,
@@ -288,10 +269,11 @@ pub fn records_at(s: &[u8], n: usize, walk: Walk, f: What) -> Records
     requires bounds_in { BoundsIn s.now walk }
     ensures { result ≡ records_in s.now n walk f }
 {
-    let arm = arm_at(s, n, walk, f);
-    let left = arm.left;
-    let middle = arm.middle;
-    let right = arm.right;
+    let Arm {
+        left,
+        middle,
+        right,
+    } = arm_at(s, n, walk, f);
     let l = kind_of_part(left, slots::left(s, n));
     let m = kind_of_what(middle);
     let r = kind_of_part(right, slots::right(s, n));

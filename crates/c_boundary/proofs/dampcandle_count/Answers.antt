@@ -1,7 +1,6 @@
-use mathlib.Core.Path.{ap, ◌∙◌}
-use Rattle.c_boundary.specs.Lent.{counted_to}
+use Rattle.c_boundary.proofs.Putting.{counted-put}
 use Rattle.c_boundary.proofs.dampcandle_count.Goals as goal
 
 pub returns : goal.returns
 returns c =
-    c.put_count.ensures ∙ ap (counted_to _) c.count.ensures
+    counted-put c.count.result _ _ _ c.put.ensures c.count.ensures

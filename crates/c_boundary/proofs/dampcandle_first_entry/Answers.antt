@@ -4,4 +4,4 @@ use Rattle.c_boundary.proofs.dampcandle_first_entry.Goals as goal
 
 pub returns : goal.returns
 returns c =
-    c.put_places.ensures ∙ ap (found_to _ _ _ _) c.first_entry-found.ensures
+    c.put_places.ensures ∙ ap (found_to _ _ _ _) c.first_entry.ensures

@@ -1,7 +1,6 @@
-use mathlib.Core.Path.{ap, ◌∙◌}
-use Rattle.c_boundary.specs.Lent.{told_to}
+use Rattle.c_boundary.proofs.Putting.{told-put}
 use Rattle.c_boundary.proofs.dampcandle_is_empty.Goals as goal
 
 pub returns : goal.returns
 returns c =
-    c.put_yes.ensures ∙ ap (told_to _) c.is_empty.ensures
+    told-put c.is_empty.result _ _ _ c.put.ensures c.is_empty.ensures

@@ -1,7 +1,6 @@
-use mathlib.Core.Path.{ap, ◌∙◌}
-use Rattle.c_boundary.specs.Lent.{written_to}
+use Rattle.c_boundary.proofs.Putting.{written-put}
 use Rattle.c_boundary.proofs.dampcandle_keys_with_prefix.Goals as goal
 
 pub returns : goal.returns
 returns c =
-    c.put_length.ensures _ ∙ ap (written_to _) c.keys_with_prefix.ensures
+    written-put c.keys_with_prefix.result _ _ _ _ c.put.ensures c.keys_with_prefix.ensures

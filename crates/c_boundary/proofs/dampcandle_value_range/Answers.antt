@@ -1,7 +1,6 @@
-use mathlib.Core.Path.{ap, ◌∙◌}
-use Rattle.c_boundary.specs.Lent.{written_to}
+use Rattle.c_boundary.proofs.Putting.{written-put}
 use Rattle.c_boundary.proofs.dampcandle_value_range.Goals as goal
 
 pub returns : goal.returns
 returns c =
-    c.put_length.ensures _ ∙ ap (written_to _) c.value_range.ensures
+    written-put c.value_range.result _ _ _ _ c.put.ensures c.value_range.ensures

@@ -1,7 +1,6 @@
-use mathlib.Core.Path.{ap, ◌∙◌}
-use Rattle.c_boundary.specs.Lent.{written_to}
+use Rattle.c_boundary.proofs.Putting.{written-put}
 use Rattle.c_boundary.proofs.dampcandle_write_cbor.Goals as goal
 
 pub returns : goal.returns
 returns c =
-    c.put_length.ensures _ ∙ ap (written_to _) c.write_cbor.ensures
+    written-put c.write_cbor.result _ _ _ _ c.put.ensures c.write_cbor.ensures

@@ -1,50 +1,37 @@
-use mathlib.Core.Path.{refl, ◌∙◌}
+use mathlib.Core.Path.{refl, ap, ◌∙◌}
 use native.Mathlib.Omega.{arith}
 use lib.ListN.{length, drop}
-use borrow.Author.Tests.{not-true, not-false}
+use Rattle.hash_tree.specs.Record.{kind_number}
 use Rattle.hash_tree.specs.Form.{parse_by}
-use Rattle.cbor.specs.Walks.{source, target, room_of}
+use Rattle.hash_tree.proofs.RecordLaws.{is_fork, is_labeled}
+use Rattle.cbor.specs.Walks.{source, target}
 use Rattle.cbor.proofs.Judging.{met-bad, parse-none, parse-shut, lies-most, judged-fork-bad, judged-fork, judged-labeled, judged-single}
 use Rattle.cbor.proofs.+judge.Goals as goal
 
-pub loop-below-init : goal.loop-below-init
-loop-below-init t c =
-    (omega arith, refl)
-
-pub returns-in_default : goal.returns-in_default
-returns-in_default t c =
-    met-bad (length c.args.s.now) (target c.args.way) (room_of c.loop-below.left) _ (parse_by (source c.args.way) c.loop-below.below (drop c.loop-below.at c.args.s.now)) c.no_tree.ensures (parse-shut (source c.args.way) c.loop-below.below _ (rw c.in_default.is at c.item_at.ensures)) ∙ c.loop-below.invariant.1
+pub returns-in_err-item : goal.returns-in_err-item
+returns-in_err-item t c =
+    c.from_residual.ensures ∙ (met-bad (length c.args.s.now) (target c.args.way) c.loop-below.left (parse_by (source c.args.way) c.loop-below.below (drop c.loop-below.at c.args.s.now)) (parse-shut (source c.args.way) c.loop-below.below _ c.in_err-item.ensures)) ∙ c.loop-below.invariant
 
 pub put_len-requires : goal.put_len-requires
 put_len-requires t c =
-    let h = rw c.in-Whole.is at c.item_at.ensures in
-    lies-most c.args.s.now _ _ _ _ h
+    lies-most c.args.s.now (kind_number c.in_ok-item.item.kind) c.in_ok-item.item.start c.in_ok-item.item.len _ c.in_ok-item.ensures
 
-pub overflow_add-at : goal.overflow_add-at
-overflow_add-at t c =
-    let h = rw c.in-Whole.is at c.item_at.ensures in
-    omega (arith, h.within)
+pub returns-in_err-l-in-Fork : goal.returns-in_err-l-in-Fork
+returns-in_err-l-in-Fork t c =
+    c.from_residual-in_err-l-in-Fork.ensures ∙ (judged-fork-bad c.args.way c.args.s.now c.loop-below.at c.loop-below.below (kind_number c.in_ok-item.item.kind) c.in_ok-item.item.start c.in_ok-item.item.len c.put_len.result c.loop-below.left (λ e. omega arith) c.in_ok-item.ensures c.put_len.ensures (ap kind_number c.in-Fork.is) c.less-left.result c.in_err-l-in-Fork.ensures) ∙ c.loop-below.invariant
 
-pub returns-then-not-ok : goal.returns-then-not-ok
-returns-then-not-ok t c =
-    let h = rw c.in-Whole.is at c.item_at.ensures in
-    judged-fork-bad c.args.way c.args.s.now c.loop-below.at c.loop-below.below _ _ _ _ (room_of c.loop-below.left) c.loop-below-test.true h c.put_len.ensures c.if-kind-eq-FORK.true c.less-left.result _ _ c.judge-l.ensures (not-true _ c.if-not-ok.true-raw) c.no_tree-then-not-ok.ensures ∙ c.loop-below.invariant.1
-
-pub loop-below-preserved-then-kind-eq-FORK : goal.loop-below-preserved-then-kind-eq-FORK
-loop-below-preserved-then-kind-eq-FORK t c =
-    let h = rw c.in-Whole.is at c.item_at.ensures in
-    (omega (arith, c.loop-below.invariant.0), judged-fork c.args.way c.args.s.now c.loop-below.at c.loop-below.below _ _ _ _ (room_of c.loop-below.left) c.loop-below-test.true h c.put_len.ensures c.if-kind-eq-FORK.true (λ i. omega (arith, c.type_inv.s i)) _ _ _ c.less-left.ensures c.judge-l.ensures (not-false _ c.if-not-ok.false-raw) refl ∙ c.loop-below.invariant.1)
-
-pub returns-then-kind-ne-LABELED : goal.returns-then-kind-ne-LABELED
-returns-then-kind-ne-LABELED t c =
-    let h = rw c.in-Whole.is at c.item_at.ensures in
-    judged-single c.args.way c.args.s.now c.loop-below.at c.loop-below.below _ _ _ _ (room_of c.loop-below.left) c.loop-below-test.true h c.put_len.ensures c.if-kind-eq-FORK.false c.if-kind-ne-LABELED.true _ c.less-left.ensures ∙ c.loop-below.invariant.1
+pub loop-below-preserved-in-Fork : goal.loop-below-preserved-in-Fork
+loop-below-preserved-in-Fork t c =
+    judged-fork c.args.way c.args.s.now c.loop-below.at c.loop-below.below (kind_number c.in_ok-item.item.kind) c.in_ok-item.item.start c.in_ok-item.item.len c.put_len.result c.loop-below.left (λ e. omega arith) c.in_ok-item.ensures c.put_len.ensures (ap kind_number c.in-Fork.is) (λ i. omega (arith, c.type_inv.s i)) c.less-left.result c.in_ok-l-in-Fork.l _ c.less-left.ensures c.in_ok-l-in-Fork.ensures refl ∙ c.loop-below.invariant
 
 pub loop-below-preserved : goal.loop-below-preserved
 loop-below-preserved t c =
-    let h = rw c.in-Whole.is at c.item_at.ensures in
-    (omega (arith, c.loop-below.invariant.0), judged-labeled c.args.way c.args.s.now c.loop-below.at c.loop-below.below _ _ _ _ (room_of c.loop-below.left) c.loop-below-test.true h c.put_len.ensures c.if-kind-ne-LABELED.false _ _ c.less-left.ensures refl ∙ c.loop-below.invariant.1)
+    judged-labeled c.args.way c.args.s.now c.loop-below.at c.loop-below.below (kind_number c.in_ok-item.item.kind) c.in_ok-item.item.start c.in_ok-item.item.len c.put_len.result c.loop-below.left (λ e. omega arith) c.in_ok-item.ensures c.put_len.ensures (ap kind_number c.in-Labeled.is) _ _ c.less-left.ensures refl ∙ c.loop-below.invariant
+
+pub returns-in_default : goal.returns-in_default
+returns-in_default t c =
+    judged-single c.args.way c.args.s.now c.loop-below.at c.loop-below.below (kind_number c.in_ok-item.item.kind) c.in_ok-item.item.start c.in_ok-item.item.len c.put_len.result c.loop-below.left (λ e. omega arith) c.in_ok-item.ensures c.put_len.ensures (λ e. c.in_default.not-Fork (is_fork _ e)) (λ e. c.in_default.not-Labeled (is_labeled _ e)) _ c.less-left.ensures ∙ c.loop-below.invariant
 
 pub returns : goal.returns
 returns t c =
-    met-bad (length c.args.s.now) (target c.args.way) (room_of c.loop-below.left) _ (parse_by (source c.args.way) c.loop-below.below (drop c.loop-below.at c.args.s.now)) c.no_tree-2.ensures (parse-none (source c.args.way) c.loop-below.below _ c.loop-below-test.false) ∙ c.loop-below.invariant.1
+    (met-bad (length c.args.s.now) (target c.args.way) c.loop-below.left (parse_by (source c.args.way) c.loop-below.below (drop c.loop-below.at c.args.s.now)) (parse-none (source c.args.way) c.loop-below.below _ (omega arith))) ∙ c.loop-below.invariant

@@ -1,24 +1,23 @@
+use borrow.Author.Rules.{rules}
+use mathlib.Core.Path.{◌≡◌}
 use native.Mathlib.Omega.{arith}
-use borrow.Author.Tests.{not-true, not-false}
-use Rattle.cbor.proofs.Answering.{not-a-tree, more-than-one, no_room, can-put, was-put}
+use Rattle.std.specs.Prelude.{Some, None, Err}
+use Rattle.answers.specs.declared.Refusal.TheVariants.{NoRoom}
+use Rattle.cbor.proofs.Answering.{no_room, can-put, was-put}
 use Rattle.cbor.proofs.exchange.Goals as goal
 
-pub returns-then-not-ok : goal.returns-then-not-ok
-returns-then-not-ok c =
-    not-a-tree c.args.way c.args.s.now c.args.out.now (λ i. omega (arith, c.type_inv.s i)) _ c.judge-m.ensures _ c.refused.ensures (not-true _ c.if-not-ok.true-raw)
+pub returns-in_err-ok_or-in-Some : goal.returns-in_err-ok_or-in-Some
+returns-in_err-ok_or-in-Some c =
+    let e : c.from_residual.result ≡ Err NoRoom = search rules in
+    let r : c.in-Some.met.room ≡ None = search rules in
+    rw e (no_room c.args.way c.args.s.now c.args.out.now (λ i. omega (arith, c.type_inv.s i)) c.in-Some.met c.in-Some.ensures (omega (arith, c.if-met-s.true)) r)
 
-pub returns-then-next-s : goal.returns-then-next-s
-returns-then-next-s c =
-    more-than-one c.args.way c.args.s.now c.args.out.now (λ i. omega (arith, c.type_inv.s i)) _ c.judge-m.ensures _ c.refused-then-next-s.ensures (omega arith)
+pub put_items-requires : goal.put_items-requires
+put_items-requires c =
+    let r : c.in-Some.met.room ≡ Some c.in_ok-ok_or-in-Some.field-0 = search rules in
+    can-put c.args.way c.args.s.now c.args.out.now (λ i. omega (arith, c.type_inv.s i)) c.in-Some.met c.in-Some.ensures (omega (arith, c.if-met-s.true)) _ r
 
-pub returns-then-m-eq0 : goal.returns-then-m-eq0
-returns-then-m-eq0 c =
-    no_room c.args.way c.args.s.now c.args.out.now (λ i. omega (arith, c.type_inv.s i)) _ c.judge-m.ensures (not-false _ c.if-not-ok.false-raw) (omega arith) c.if-m-eq0.true
-
-pub put_items-size-requires : goal.put_items-size-requires
-put_items-size-requires c =
-    can-put c.args.way c.args.s.now c.args.out.now (λ i. omega (arith, c.type_inv.s i)) _ c.judge-m.ensures (not-false _ c.if-not-ok.false-raw) (omega arith) c.if-m-eq0.false
-
-pub returns : goal.returns
-returns c =
-    was-put c.args.way c.args.s.now c.args.out.now (λ i. omega (arith, c.type_inv.s i)) _ c.judge-m.ensures (not-false _ c.if-not-ok.false-raw) (omega arith) _ _ c.if-m-eq0.false c.put_items-size.ensures
+pub returns-in_ok-ok_or-in-Some : goal.returns-in_ok-ok_or-in-Some
+returns-in_ok-ok_or-in-Some c =
+    let r : c.in-Some.met.room ≡ Some c.in_ok-ok_or-in-Some.field-0 = search rules in
+    was-put c.args.way c.args.s.now c.args.out.now (λ i. omega (arith, c.type_inv.s i)) c.in-Some.met c.in-Some.ensures (omega (arith, c.if-met-s.true)) _ _ _ r c.put_items.ensures

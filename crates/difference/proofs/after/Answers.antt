@@ -1,6 +1,6 @@
 use mathlib.Core.Path.{ap}
 use Rattle.slots.specs.declared.Header.{Header}
-use Rattle.difference.proofs.Cursors.{root_in, here, after-cursor}
+use Rattle.difference.proofs.Standing.{root_in, here, after-cursor}
 use Rattle.difference.proofs.after.Goals as goal
 
 pub key-requires : goal.key-requires

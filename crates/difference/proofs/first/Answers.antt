@@ -1,6 +1,6 @@
 use mathlib.Core.Path.{ap}
 use Rattle.slots.specs.declared.Header.{Header}
-use Rattle.difference.proofs.Cursors.{root_in, first-cursor}
+use Rattle.difference.proofs.Standing.{root_in, first-cursor}
 use Rattle.difference.proofs.first.Goals as goal
 
 pub first_entry-requires : goal.first_entry-requires

@@ -3,14 +3,6 @@ use Prim.Native.Nat.{◌+◌}
 use Rattle.entries.specs.Digests.{count_below, linked_count}
 use Rattle.entries.proofs.linked_count.Goals as goal
 
-pub count_below-requires : goal.count_below-requires
-count_below-requires c =
-    rw c.left.ensures c.requires.left
-
-pub count_below-requires-2 : goal.count_below-requires-2
-count_below-requires-2 c =
-    rw c.right.ensures c.requires.right
-
 pub returns : goal.returns
 unfolding linked_count
 returns c =

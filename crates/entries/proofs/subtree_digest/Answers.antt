@@ -1,13 +1,7 @@
 -- `entries::subtree_digest` meets its contract.
-use mathlib.Core.Path.{sym, subst, ◌∙◌}
-use Rattle.entries.specs.Digests.{Link, forked, compute_subtree_hash}
+use mathlib.Core.Path.{◌∙◌}
+use Rattle.entries.specs.Digests.{forked, compute_subtree_hash}
 use Rattle.entries.proofs.subtree_digest.Goals as goal
-
-pub fork_with-requires : goal.fork_with-requires
-fork_with-requires c =
-    let a = c.requires in
-    let s = c.args.s.now in
-    record { left_link = subst (Link s) (sym c.left.ensures) a.left; right_link = subst (Link s) (sym c.right.ensures) a.right }
 
 pub returns : goal.returns
 unfolding compute_subtree_hash

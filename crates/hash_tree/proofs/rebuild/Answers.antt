@@ -1,25 +1,31 @@
-use mathlib.Core.Path.{sym, ◌∙◌}
-use borrow.Author.Tests.{not-true, not-false}
+use mathlib.Core.Path.{◌≡◌, sym, ◌∙◌}
+use borrow.Author.Rules.{rules}
+use Rattle.std.specs.Prelude.{None}
 use Rattle.hash_tree.specs.Written.{max_depth}
 use Rattle.hash_tree.specs.Parse.{parse}
 use Rattle.hash_tree.specs.Whole.{rebuilt}
 use Rattle.hash_tree.proofs.Rebuilding.{left, none-alone, more-alone, all-alone}
 use Rattle.hash_tree.proofs.rebuild.Goals as goal
 
-pub returns-then-not-ok : goal.returns-then-not-ok
+pub returns-in-Some : goal.returns-in-Some
 unfolding rebuilt
-returns-then-not-ok c =
+returns-in-Some c =
     let s = c.args.witness.now in
-    c.refuse.ensures ∙ sym (none-alone s c.rebuild_at-r.result (parse max_depth s) c.rebuild_at-r.ensures (not-true _ c.if-not-ok.true-raw))
+    sym (all-alone s c.in-Some.t (parse max_depth s) (left s max_depth 0) (sym c.rebuild_at.ensures ∙ c.in-Some.is) c.if-t-witness.true)
 
-pub returns-then-next-witness : goal.returns-then-next-witness
-unfolding rebuilt
-returns-then-next-witness c =
-    let s = c.args.witness.now in
-    c.refuse-then-next-witness.ensures ∙ sym (more-alone s c.rebuild_at-r.result (parse max_depth s) c.rebuild_at-r.ensures c.if-next-witness.true)
+-- a byte more, or fewer
 
-pub returns : goal.returns
+pub returns-in_default : goal.returns-in_default
 unfolding rebuilt
-returns c =
+returns-in_default c =
     let s = c.args.witness.now in
-    sym (all-alone s c.rebuild_at-r.result (parse max_depth s) (left s max_depth 0) c.rebuild_at-r.ensures (not-false _ c.if-not-ok.false-raw) c.if-next-witness.false)
+    sym (more-alone s c.in-Some.t (parse max_depth s) (sym c.rebuild_at.ensures ∙ c.in-Some.is) c.if-t-witness.false)
+
+-- no tree
+
+pub returns-in_default-2 : goal.returns-in_default-2
+unfolding rebuilt
+returns-in_default-2 c =
+    let s = c.args.witness.now in
+    let none : c.rebuild_at.result ≡ None = search rules in
+    sym (none-alone s (parse max_depth s) (sym c.rebuild_at.ensures ∙ none))

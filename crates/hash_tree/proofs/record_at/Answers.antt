@@ -1,7 +1,7 @@
-use mathlib.Core.Path.{sym}
+use mathlib.Core.Path.{sym, ◌∙◌}
 use native.Mathlib.Omega.{arith}
 use lib.ListN.{length-drop}
-use Rattle.hash_tree.proofs.RecordLaws.{shuts, shuts-at, opens_at}
+use Rattle.hash_tree.proofs.RecordLaws.{shuts, shuts-at, opens_at, with_kind, no_kind}
 use Rattle.hash_tree.proofs.record_at.Goals as goal
 
 pub returns-then-left-lt2 : goal.returns-then-left-lt2
@@ -9,27 +9,19 @@ returns-then-left-lt2 c =
     let a = c.args in
     sym (shuts _ (λ o. omega (arith, c.left_at-left.ensures, length-drop a.at a.s.now)))
 
-pub returns-then-kind-gt-PRUNED : goal.returns-then-kind-gt-PRUNED
-returns-then-kind-gt-PRUNED c =
+pub returns-in_err-kind : goal.returns-in_err-kind
+returns-in_err-kind c =
     let a = c.args in
-    sym (shuts-at a.s.now a.at _ _ c.wide-a.ensures.0 c.wide-b.ensures.0 (λ h₁ h₂ h₃ h₄ h₅. omega arith))
+    c.from_residual.ensures
+    ∙ sym (shuts-at a.s.now a.at _ _ c.from-a.ensures c.from-b.ensures (λ h₁ h₂ h₃ h₄ h₅. no_kind _ (sym c.from_number.ensures ∙ c.in_err-kind.was) h₂))
 
-pub returns-then-len-least_len : goal.returns-then-len-least_len
-returns-then-len-least_len c =
+pub returns-then-len-left : goal.returns-then-len-left
+returns-then-len-left c =
     let a = c.args in
-    sym (shuts-at a.s.now a.at _ _ c.wide-a.ensures.0 c.wide-b.ensures.0 (λ h₁ h₂ h₃ h₄ h₅. omega arith))
+    let k = with_kind _ _ (sym c.from_number.ensures ∙ c.in_ok-kind.was) in
+    rw (← k.1) (sym (opens_at a.s.now a.at _ _ c.from-a.ensures c.from-b.ensures (omega arith) k.0 (omega arith) (omega arith) (omega arith)))
 
-pub returns-then-most_len-len : goal.returns-then-most_len-len
-returns-then-most_len-len c =
+pub returns-else-least_len-len : goal.returns-else-least_len-len
+returns-else-least_len-len c =
     let a = c.args in
-    sym (shuts-at a.s.now a.at _ _ c.wide-a.ensures.0 c.wide-b.ensures.0 (λ h₁ h₂ h₃ h₄ h₅. omega arith))
-
-pub returns-then-left-len : goal.returns-then-left-len
-returns-then-left-len c =
-    let a = c.args in
-    sym (shuts-at a.s.now a.at _ _ c.wide-a.ensures.0 c.wide-b.ensures.0 (λ h₁ h₂ h₃ h₄ h₅. omega arith))
-
-pub returns : goal.returns
-returns c =
-    let a = c.args in
-    sym (opens_at a.s.now a.at _ _ c.wide-a.ensures.0 c.wide-b.ensures.0 (omega arith) (omega arith) (omega arith) (omega arith) (omega arith))
+    sym (shuts-at a.s.now a.at _ _ c.from-a.ensures c.from-b.ensures (λ h₁ h₂ h₃ h₄ h₅. grind arith))

@@ -1,10 +1,10 @@
-use borrow.Author.Tests.{not-true, not-false, lt-ltb, le-ltb}
+use mathlib.Core.Path.{sym, ◌∙◌}
+use borrow.Author.Tests.{lt-ltb, le-ltb}
 use Rattle.hash_tree.specs.Written.{max_depth}
 use Rattle.hash_tree.specs.Parse.{parse}
-use Rattle.lookup.specs.declared.Looked.TheVariants.{Nothing}
 use Rattle.lookup.specs.Answer.{lookup_answer}
-use Rattle.lookup.proofs.Walking.{lies, fresh-fits}
-use Rattle.lookup.proofs.Answers.{none-alone, more-alone, ill-alone, well-alone}
+use Rattle.lookup.proofs.Walking.{lies}
+use Rattle.lookup.proofs.Answers.{of-walk, none-of, none-alone, more-alone, ill-alone, well-alone}
 use Rattle.lookup.proofs.lookup.Goals as goal
 
 pub returns-then-key-gt-MAX_LABEL : goal.returns-then-key-gt-MAX_LABEL
@@ -12,30 +12,26 @@ unfolding lookup_answer
 returns-then-key-gt-MAX_LABEL c =
     rw (lt-ltb _ _ c.if-key-gt-MAX_LABEL.true)
 
-pub walk_at-w-requires : goal.walk_at-w-requires
-walk_at-w-requires c =
-    rw c.fresh.ensures (fresh-fits c.args.witness.now Nothing)
-
-pub returns-then-not-ok : goal.returns-then-not-ok
+pub returns-then-level : goal.returns-then-level
 unfolding lookup_answer
-returns-then-not-ok c =
+returns-then-level c =
     let s = c.args.witness.now in
-    rw (le-ltb _ _ c.if-key-gt-MAX_LABEL.false, none-alone s c.args.key.now c.walk_at-w.result (parse max_depth s) (rw c.fresh.ensures at c.walk_at-w.ensures) (not-true _ c.if-not-ok.true-raw))
+    rw (le-ltb _ _ c.if-key-gt-MAX_LABEL.false, well-alone s c.args.key.now c.in-Some.walk.level c.in-Some.walk.next (parse max_depth s) (of-walk _ _ _ _ _ _ _ _ (rw c.fresh.ensures at (sym c.in-Some.is ∙ c.walk_at.ensures))) (lies s max_depth 0) c.if-walk-witness.true c.if-level.true, c.unwrap_or.ensures, c.gap.ensures)
 
-pub returns-then-next-witness : goal.returns-then-next-witness
+pub returns-else-level : goal.returns-else-level
 unfolding lookup_answer
-returns-then-next-witness c =
+returns-else-level c =
     let s = c.args.witness.now in
-    rw (le-ltb _ _ c.if-key-gt-MAX_LABEL.false, more-alone s c.args.key.now c.walk_at-w.result (parse max_depth s) (rw c.fresh.ensures at c.walk_at-w.ensures) (lies s max_depth 0) c.if-next-witness.true)
+    rw (le-ltb _ _ c.if-key-gt-MAX_LABEL.false, ill-alone s c.args.key.now c.in-Some.walk.level c.in-Some.walk.next (parse max_depth s) (of-walk _ _ _ _ _ _ _ _ (rw c.fresh.ensures at (sym c.in-Some.is ∙ c.walk_at.ensures))) (lies s max_depth 0) c.if-walk-witness.true c.if-level.false)
 
-pub returns-then-not-well : goal.returns-then-not-well
+pub returns-in_default : goal.returns-in_default
 unfolding lookup_answer
-returns-then-not-well c =
+returns-in_default c =
     let s = c.args.witness.now in
-    rw (le-ltb _ _ c.if-key-gt-MAX_LABEL.false, ill-alone s c.args.key.now c.walk_at-w.result (parse max_depth s) (rw c.fresh.ensures at c.walk_at-w.ensures) (lies s max_depth 0) (not-false _ c.if-not-ok.false-raw) c.if-next-witness.false (not-true _ c.if-not-well.true-raw))
+    rw (le-ltb _ _ c.if-key-gt-MAX_LABEL.false, more-alone s c.args.key.now c.in-Some.walk.level c.in-Some.walk.next (parse max_depth s) (of-walk _ _ _ _ _ _ _ _ (rw c.fresh.ensures at (sym c.in-Some.is ∙ c.walk_at.ensures))) (lies s max_depth 0) c.if-walk-witness.false)
 
-pub returns : goal.returns
+pub returns-in_default-2 : goal.returns-in_default-2
 unfolding lookup_answer
-returns c =
+returns-in_default-2 c =
     let s = c.args.witness.now in
-    rw (le-ltb _ _ c.if-key-gt-MAX_LABEL.false, well-alone s c.args.key.now c.walk_at-w.result (parse max_depth s) (rw c.fresh.ensures at c.walk_at-w.ensures) (lies s max_depth 0) (not-false _ c.if-not-ok.false-raw) c.if-next-witness.false (not-false _ c.if-not-well.false-raw), c.settle-looked.ensures)
+    rw (le-ltb _ _ c.if-key-gt-MAX_LABEL.false, none-alone s c.args.key.now c.fresh.result (parse max_depth s) (none-of _ _ _ _ _ _ _ (rw c.fresh.ensures at (sym c.in_default.is ∙ c.walk_at.ensures))))

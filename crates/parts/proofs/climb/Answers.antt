@@ -1,24 +1,18 @@
 use Rattle.parts.proofs.Climbing.{climbed-stop, climbed-go, climbed-zero}
-use mathlib.Core.Path.{refl, sym, ◌∙◌}
+use mathlib.Core.Path.{◌≡◌, sym, ◌∙◌}
+use Prim.Native.Nat.{◌+◌, ◌-◌}
 use native.Mathlib.Omega.{arith}
 use Rattle.parts.proofs.climb.Goals as goal
 
-pub loop-n-init : goal.loop-n-init
-loop-n-init c =
-    (omega arith, refl)
+pub returns-then-s-level_at-eq-LEFT : goal.returns-then-s-level_at-eq-LEFT
+returns-then-s-level_at-eq-LEFT c =
+    let n : c.loop-i.i - 1 + 1 ≡ c.loop-i.i = omega arith in
+    rw n (sym (c.loop-i.invariant ∙ climbed-stop c.args.s.now c.loop-i.i _ c.loop-i.digest (omega arith) c.level_at.ensures c.if-s-level_at-eq-LEFT.true))
 
-pub returns-then-s-at-eq49 : goal.returns-then-s-at-eq49
-returns-then-s-at-eq49 c =
-    sym (c.loop-n.invariant.1 ∙ climbed-stop c.args.s.now c.loop-n.n _ c.loop-n.d (omega arith) c.level_at-at.ensures c.if-s-at-eq49.true)
-
-pub loop-n-smaller : goal.loop-n-smaller
-loop-n-smaller c =
-    omega arith
-
-pub loop-n-preserved : goal.loop-n-preserved
-loop-n-preserved c =
-    (omega arith, c.loop-n.invariant.1 ∙ climbed-go c.args.s.now c.loop-n.n _ c.loop-n.d (omega arith) c.level_at-at.ensures c.if-s-at-eq49.false ∙ rw c.join-d.ensures)
+pub loop-i-preserved : goal.loop-i-preserved
+loop-i-preserved c =
+    c.loop-i.invariant ∙ climbed-go c.args.s.now c.loop-i.i _ c.loop-i.digest (omega arith) c.level_at.ensures c.if-s-level_at-eq-LEFT.false ∙ rw c.join-digest.ensures
 
 pub returns : goal.returns
 returns c =
-    sym (c.loop-n.invariant.1 ∙ climbed-zero c.args.s.now c.loop-n.n c.loop-n.d (omega arith))
+    sym (c.loop-i.invariant ∙ climbed-zero c.args.s.now c.loop-i.i c.loop-i.digest (omega arith))

@@ -1,11 +1,10 @@
-use Prim.Native.Nat.{◌-◌, ◌≤◌}
 use mathlib.Core.Path.{◌≡◌}
-use lib.ListN.{length, take}
+use lib.ListN.{length}
 use Rattle.parts.specs.Layout.{run}
 use Rattle.parts.proofs.take_part.Given as goal
 
-abbrev pub invariant-loop-i : goal.invariant-loop-i
-invariant-loop-i l = (l.i ≤ length l.x) × (length l.s ≡ length l.initial.s) × (l.s ≡ run l.initial.s (take l.i l.x))
+abbrev pub invariant-loop-rest : goal.invariant-loop-rest
+invariant-loop-rest l = run l.initial.s l.bytes ≡ run l.s l.rest
 
-abbrev pub decreases-loop-i : goal.decreases-loop-i
-decreases-loop-i l = length l.x - l.i
+abbrev pub decreases-loop-rest : goal.decreases-loop-rest
+decreases-loop-rest l = length l.rest

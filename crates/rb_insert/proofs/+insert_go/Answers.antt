@@ -1,6 +1,4 @@
-use Rattle.rb_nodes.proofs.Heap.{has-len}
-use mathlib.Core.Path.{◌∙◌}
-use Rattle.rb_nodes.proofs.Heap.{full-in, full-some}
+use Rattle.rb_nodes.proofs.Heap.{has-len, full-in, full-some}
 use Rattle.rb_insert.proofs.Inserting.{new-slot, new-done, less-call, less-link, less-can, less_done, greater-call, greater-link, greater-can, greater-done, equal-can, equal-done}
 use Rattle.rb_insert.proofs.+insert_go.Goals as goal
 
@@ -12,17 +10,9 @@ pub mark_stale-requires : goal.mark_stale-requires
 mark_stale-requires t c =
     has-len c.put_entry.auto.s (new-slot c.if-h-eq0.true c.requires.0 c.requires.1 c.requires.2)
 
-pub shape_of-s-then-h-eq0 : goal.shape_of-s-then-h-eq0
-shape_of-s-then-h-eq0 t c =
-    c.mark_stale.auto.s ∙ c.put_entry.auto.s
-
 pub returns-then-h-eq0 : goal.returns-then-h-eq0
 returns-then-h-eq0 t c =
     new-done c.put_entry.ensures c.if-h-eq0.true c.mark_stale.ensures
-
-pub compare_key-o-requires : goal.compare_key-o-requires
-compare_key-o-requires t c =
-    (c.requires.0, c.requires.1, full-some c.if-h-eq0.false c.requires.0 c.requires.1)
 
 pub set_value-requires : goal.set_value-requires
 set_value-requires t c =
@@ -30,7 +20,7 @@ set_value-requires t c =
 
 pub update_and_balance-requires : goal.update_and_balance-requires
 update_and_balance-requires t c =
-    equal-can _ _ _ c.if-h-eq0.false c.compare_key-o.ensures c.in-Equal.is c.set_value.ensures c.requires.0 c.requires.1 c.requires.2
+    equal-can _ _ _ c.if-h-eq0.false c.compare_key.ensures c.in-Equal.is c.set_value.ensures c.requires.0 c.requires.1 c.requires.2
 
 pub left-l-requires : goal.left-l-requires
 left-l-requires t c =
@@ -38,16 +28,16 @@ left-l-requires t c =
 
 pub insert_go-p-requires : goal.insert_go-p-requires
 insert_go-p-requires t c =
-    less-call _ _ _ c.if-h-eq0.false c.compare_key-o.ensures c.in-Less.is c.left-l.ensures c.requires.0 c.requires.1 c.requires.2 c.decreases
+    less-call _ _ _ c.if-h-eq0.false c.compare_key.ensures c.in-Less.is c.left-l.ensures c.requires.0 c.requires.1 c.requires.2 c.decreases
 
 pub set_left-requires : goal.set_left-requires
 set_left-requires t c =
-    let parts = less-link _ _ _ c.if-h-eq0.false c.compare_key-o.ensures c.in-Less.is c.left-l.ensures c.insert_go-p.ensures c.requires.0 c.requires.1 c.requires.2 in
+    let parts = less-link _ _ _ c.if-h-eq0.false c.compare_key.ensures c.in-Less.is c.left-l.ensures c.insert_go-p.ensures c.requires.0 c.requires.1 c.requires.2 in
     record { has_slot = parts.0; x_bound = parts.1 }
 
 pub update_and_balance-requires-in-Less : goal.update_and_balance-requires-in-Less
 update_and_balance-requires-in-Less t c =
-    less-can _ _ _ c.if-h-eq0.false c.compare_key-o.ensures c.in-Less.is c.left-l.ensures c.insert_go-p.ensures c.set_left.ensures c.requires.0 c.requires.1 c.requires.2
+    less-can _ _ _ c.if-h-eq0.false c.compare_key.ensures c.in-Less.is c.left-l.ensures c.insert_go-p.ensures c.set_left.ensures c.requires.0 c.requires.1 c.requires.2
 
 pub right-r-requires : goal.right-r-requires
 right-r-requires t c =
@@ -55,37 +45,25 @@ right-r-requires t c =
 
 pub insert_go-p-requires-in-Greater : goal.insert_go-p-requires-in-Greater
 insert_go-p-requires-in-Greater t c =
-    greater-call _ _ _ c.if-h-eq0.false c.compare_key-o.ensures c.in-Greater.is c.right-r.ensures c.requires.0 c.requires.1 c.requires.2 c.decreases
+    greater-call _ _ _ c.if-h-eq0.false c.compare_key.ensures c.in-Greater.is c.right-r.ensures c.requires.0 c.requires.1 c.requires.2 c.decreases
 
 pub set_right-requires : goal.set_right-requires
 set_right-requires t c =
-    let parts = greater-link _ _ _ c.if-h-eq0.false c.compare_key-o.ensures c.in-Greater.is c.right-r.ensures c.insert_go-p-in-Greater.ensures c.requires.0 c.requires.1 c.requires.2 in
+    let parts = greater-link _ _ _ c.if-h-eq0.false c.compare_key.ensures c.in-Greater.is c.right-r.ensures c.insert_go-p-in-Greater.ensures c.requires.0 c.requires.1 c.requires.2 in
     record { has_slot = parts.0; x_bound = parts.1 }
 
 pub update_and_balance-requires-in-Greater : goal.update_and_balance-requires-in-Greater
 update_and_balance-requires-in-Greater t c =
-    greater-can _ _ _ c.if-h-eq0.false c.compare_key-o.ensures c.in-Greater.is c.right-r.ensures c.insert_go-p-in-Greater.ensures c.set_right.ensures c.requires.0 c.requires.1 c.requires.2
-
-pub shape_of-s-in-Equal : goal.shape_of-s-in-Equal
-shape_of-s-in-Equal t c =
-    c.update_and_balance.auto.s ∙ c.set_value.auto.s
+    greater-can _ _ _ c.if-h-eq0.false c.compare_key.ensures c.in-Greater.is c.right-r.ensures c.insert_go-p-in-Greater.ensures c.set_right.ensures c.requires.0 c.requires.1 c.requires.2
 
 pub returns-in-Equal : goal.returns-in-Equal
 returns-in-Equal t c =
-    equal-done _ _ _ c.if-h-eq0.false c.compare_key-o.ensures c.in-Equal.is c.set_value.ensures c.update_and_balance.ensures
-
-pub shape_of-s-in-Less : goal.shape_of-s-in-Less
-shape_of-s-in-Less t c =
-    c.update_and_balance-in-Less.auto.s ∙ c.set_left.auto.s ∙ c.insert_go-p.auto.s
+    equal-done _ _ _ c.if-h-eq0.false c.compare_key.ensures c.in-Equal.is c.set_value.ensures c.update_and_balance.ensures
 
 pub returns-in-Less : goal.returns-in-Less
 returns-in-Less t c =
-    less_done _ _ _ c.if-h-eq0.false c.compare_key-o.ensures c.in-Less.is c.left-l.ensures c.insert_go-p.ensures c.set_left.ensures c.update_and_balance-in-Less.ensures
-
-pub shape_of-s-in-Greater : goal.shape_of-s-in-Greater
-shape_of-s-in-Greater t c =
-    c.update_and_balance-in-Greater.auto.s ∙ c.set_right.auto.s ∙ c.insert_go-p-in-Greater.auto.s
+    less_done _ _ _ c.if-h-eq0.false c.compare_key.ensures c.in-Less.is c.left-l.ensures c.insert_go-p.ensures c.set_left.ensures c.update_and_balance-in-Less.ensures
 
 pub returns-in-Greater : goal.returns-in-Greater
 returns-in-Greater t c =
-    greater-done _ _ _ c.if-h-eq0.false c.compare_key-o.ensures c.in-Greater.is c.right-r.ensures c.insert_go-p-in-Greater.ensures c.set_right.ensures c.update_and_balance-in-Greater.ensures
+    greater-done _ _ _ c.if-h-eq0.false c.compare_key.ensures c.in-Greater.is c.right-r.ensures c.insert_go-p-in-Greater.ensures c.set_right.ensures c.update_and_balance-in-Greater.ensures

@@ -1,10 +1,6 @@
 use Rattle.llrb.specs.Panic.{move_red_right₂_p}
-use Rattle.rb_moves.proofs.Lending.{flip-first, flip-next, flip-done}
+use Rattle.rb_moves.proofs.Lending.{flip-next, flip-done}
 use Rattle.rb_moves.proofs.move_red_right.Goals as goal
-
-pub flip_colors-requires : goal.flip_colors-requires
-flip_colors-requires c =
-    flip-first move_red_right₂_p c.requires
 
 pub move_red_right_2-requires : goal.move_red_right_2-requires
 move_red_right_2-requires c =

@@ -12,11 +12,11 @@ get-requires c =
 
 pub returns-in_default : goal.returns-in_default
 returns-in_default c =
-    λ m a. (says-absent c.args.key.now m (not_there c.header_of-root.ensures c.args.key.now c.get.ensures c.in_default.is a), refl)
+    λ m a. (says-absent c.args.key.now m (not_there c.header_of-root.ensures c.args.key.now c.get.ensures c.in_default.is a), refl, refl)
 
 pub has_value-requires : goal.has_value-requires
 has_value-requires c =
-    entry_at c.header_of-root.ensures c.args.key.now c.get.ensures c.in-At.is c.requires.0.1
+    entry_at c.header_of-root.ensures c.args.key.now c.get.ensures c.in-Some.is c.requires.0.1
 
 pub returns-then-has_value : goal.returns-then-has_value
 returns-then-has_value c =
@@ -24,7 +24,7 @@ returns-then-has_value c =
     let h = c.header_of-root.ensures in
     let k = c.args.key.now in
     let g = c.get.ensures in
-    let q = c.in-At.is in
+    let q = c.in-Some.is in
     let p = there h k g q a in
     (says-present k m p.1, modify-same k c.args.value.now a p.1 (value-at h k g q a (decides-yes _ c.if-has_value.true c.has_value.ensures)))
 
@@ -38,4 +38,4 @@ returns c =
     let h = c.header_of-root.ensures in
     let k = c.args.key.now in
     let b = c.modify_go.ensures m.tree (held_at h a) c.requires.1 (λ i. omega (arith, c.type_inv.value i)) in
-    (says-present k m (there h k c.get.ensures c.in-At.is a).1, changed k c.args.value.now a (root_is _ h) b c.requires.1)
+    (says-present k m (there h k c.get.ensures c.in-Some.is a).1, changed k c.args.value.now a (root_is _ h) b c.requires.1)

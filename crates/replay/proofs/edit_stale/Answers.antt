@@ -1,38 +1,27 @@
-use Rattle.replay.proofs.Running.{insert-did, insert-full, modify-did, modify-absent, delete-did, delete-absent, by_number, by-delete}
+use Rattle.replay.specs.declared.Operation.TheVariants.{Insert, Modify, Delete}
+use Rattle.replay.proofs.Running.{inserts, modifies, deletes, by_operation}
 use Rattle.replay.proofs.edit_stale.Goals as goal
 
 pub insert_stale-requires : goal.insert_stale-requires
 insert_stale-requires c =
     c.requires
 
-pub returns-in_default : goal.returns-in_default
-returns-in_default c =
-    λ m a. by_number 0 _ _ c.if-operation-eq-INSERT.true (insert-full _ c.requires.key a _ c.requires.value (c.insert_stale.ensures m a) c.in_default.is)
-
-pub returns-then-operation-eq-INSERT : goal.returns-then-operation-eq-INSERT
-returns-then-operation-eq-INSERT c =
-    λ m a. by_number 0 _ _ c.if-operation-eq-INSERT.true (insert-did _ c.requires.key a _ c.requires.value (c.insert_stale.ensures m a) c.in-Done.is)
+pub returns-in-Insert : goal.returns-in-Insert
+returns-in-Insert c =
+    λ m a. by_operation Insert _ _ c.in-Insert.is (inserts _ c.requires.key a _ c.requires.value _ (c.insert_stale.ensures m a))
 
 pub modify_stale-requires : goal.modify_stale-requires
 modify_stale-requires c =
     (c.requires.sound, c.requires.value)
 
-pub returns-in_default-modify_stale : goal.returns-in_default-modify_stale
-returns-in_default-modify_stale c =
-    λ m a. by_number 1 _ _ c.if-operation-eq-MODIFY.true (modify-absent _ c.requires.key a _ c.requires.value (c.modify_stale.ensures m a) c.in_default-modify_stale.is)
-
-pub returns-then-operation-eq-MODIFY : goal.returns-then-operation-eq-MODIFY
-returns-then-operation-eq-MODIFY c =
-    λ m a. by_number 1 _ _ c.if-operation-eq-MODIFY.true (modify-did _ c.requires.key a _ c.requires.value (c.modify_stale.ensures m a) c.in-Done-modify_stale.is)
+pub returns-in-Modify : goal.returns-in-Modify
+returns-in-Modify c =
+    λ m a. by_operation Modify _ _ c.in-Modify.is (modifies _ c.requires.key a _ c.requires.value _ (c.modify_stale.ensures m a))
 
 pub delete_stale-requires : goal.delete_stale-requires
 delete_stale-requires c =
     c.requires.sound
 
-pub returns-in_default-delete_stale : goal.returns-in_default-delete_stale
-returns-in_default-delete_stale c =
-    λ m a. by-delete _ _ _ c.if-operation-eq-INSERT.false c.if-operation-eq-MODIFY.false (delete-absent _ c.requires.key a (c.delete_stale.ensures m a) c.in_default-delete_stale.is)
-
-pub returns : goal.returns
-returns c =
-    λ m a. by-delete _ _ _ c.if-operation-eq-INSERT.false c.if-operation-eq-MODIFY.false (delete-did _ c.requires.key a (c.delete_stale.ensures m a) c.in-Done-delete_stale.is)
+pub returns-in-Delete : goal.returns-in-Delete
+returns-in-Delete c =
+    λ m a. by_operation Delete _ _ c.in-Delete.is (deletes _ c.requires.key a _ (c.delete_stale.ensures m a))

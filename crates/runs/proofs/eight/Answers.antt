@@ -1,6 +1,8 @@
+use mathlib.Core.Path.{ap, ◌∙◌}
+use Rattle.std.specs.Int.{w64, from_be_bytes}
 use Rattle.runs.proofs.Runs.{eight_is}
 use Rattle.runs.proofs.eight.Goals as goal
 
 pub returns : goal.returns
 returns c =
-    eight_is _ _ _ _ _ _ _ _ _ c.requires c.wide.ensures.0 c.wide-2.ensures.0 c.wide-3.ensures.0 c.wide-4.ensures.0 c.wide-5.ensures.0 c.wide-6.ensures.0 c.wide-7.ensures.0 c.wide-8.ensures.0
+    c.from_be_bytes.ensures ∙ ap (from_be_bytes w64) (rw c.unwrap.ensures at c.try_into.ensures.1).same ∙ eight_is c.args.s.now c.requires

@@ -1,6 +1,10 @@
-use Rattle.runs.proofs.Runs.{filled-into, padded-set}
+use mathlib.Core.Path.{refl}
+use native.Mathlib.Omega.{arith}
+use lib.ListN.{length}
+use Rattle.runs.proofs.Runs.{filled, padded-set}
 use Rattle.runs.proofs.put_padded.Goals as goal
 
 pub returns : goal.returns
 returns c =
-    padded-set _ _ _ _ _ _ (filled-into c.args.s.now c.args.x.now _ c.args.a c.args.n c.requires c.copy_from_slice.ensures.after) c.wipe.ensures
+    let a = c.args in
+    padded-set _ _ _ _ _ _ (filled a.s.now a.x.now _ a.a (length a.x.now) (omega (arith, c.requires)) refl c.copy_from_slice.ensures.after) c.wipe.ensures

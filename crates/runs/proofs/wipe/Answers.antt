@@ -1,38 +1,16 @@
-use mathlib.Core.Path.{◌≡◌, refl, ◌∙◌}
-use native.Mathlib.Omega.{arith}
-use lib.ListN.{length-set}
-use Rattle.runs.specs.Runs.{zeros}
-use Rattle.runs.proofs.Runs.{wipe-next}
+use mathlib.Core.Path.{◌≡◌, ap, ◌∙◌}
+use Prim.Native.Nat.{◌+◌, ◌-◌}
+use native.Mathlib.Nat.{add-sub_cancel_left}
+use lib.ListN.{length}
+use Rattle.runs.specs.Runs.{part, zeros}
+use Rattle.runs.proofs.Padding.{length-zeros}
+use Rattle.runs.proofs.Runs.{filled, part_length}
 use Rattle.runs.proofs.wipe.Goals as goal
 
-pub loop-i-init : goal.loop-i-init
-unfolding zeros
-loop-i-init c =
-    (omega arith, refl, refl)
-
-pub overflow_add-s : goal.overflow_add-s
-overflow_add-s c =
-    omega arith
-
-pub bounds-s-a : goal.bounds-s-a
-bounds-s-a c =
-    omega (arith, c.loop-i.invariant.1)
-
-pub overflow_add-i : goal.overflow_add-i
-overflow_add-i c =
-    omega arith
-
-pub loop-i-smaller : goal.loop-i-smaller
-loop-i-smaller c =
-    omega arith
-
-pub loop-i-preserved : goal.loop-i-preserved
-loop-i-preserved c =
-    (omega arith, simp length-set c.loop-i.invariant.1, rw c.loop-i.invariant.2 (wipe-next c.args.s.now c.args.a c.loop-i.i))
-
-pub shape_of-s : goal.shape_of-s
-shape_of-s c = c.loop-i.invariant.1
-
 pub returns : goal.returns
+unfolding zeros
 returns c =
-    let e : c.loop-i.i ≡ c.args.n = omega arith in c.loop-i.invariant.2 ∙ rw e
+    let a = c.args in
+    let k : a.a + a.n - a.a ≡ a.n = add-sub_cancel_left a.a a.n in
+    let long : length (part a.a (a.a + a.n - a.a) a.s.now) ≡ a.n = rw k (part_length a.a a.n a.s.now c.requires) in
+    filled a.s.now (zeros a.n) _ a.a a.n c.requires (length-zeros a.n) (c.fill.ensures.after (λ y e. e) ∙ ap zeros long)

@@ -1,44 +1,6 @@
-use Rattle.search.proofs.Descent.{start, here_in, less-left, less-right}
-use Rattle.search.proofs.Searches.{low-ends, low-stops, low-left, low-right}
+use Rattle.std.proofs.Common.{rules}
+use Rattle.search.proofs.Searches.{low_all}
 use Rattle.search.proofs.lower_bound.Goals as goal
 
-pub loop-at-init : goal.loop-at-init
-loop-at-init c =
-    start c.requires
-
-pub key-node_key-requires : goal.key-node_key-requires
-key-node_key-requires c =
-    let w = here_in c.loop-at.invariant c.if-at-eq0.false in
-    record { has_slot = w.inside; length_bound = w.key }
-
-pub right-at-requires : goal.right-at-requires
-right-at-requires c =
-    (here_in c.loop-at.invariant c.if-at-eq0.false).inside
-
-pub loop-at-smaller-in-Less : goal.loop-at-smaller-in-Less
-loop-at-smaller-in-Less c =
-    less-right c.loop-at.invariant c.if-at-eq0.false c.right-at.ensures
-
-pub loop-at-preserved-in-Less : goal.loop-at-preserved-in-Less
-loop-at-preserved-in-Less c =
-    low-right _ c.loop-at.invariant c.if-at-eq0.false c.key-node_key.ensures c.compare-c.ensures c.in-Less.is c.right-at.ensures
-
-pub left-at-requires : goal.left-at-requires
-left-at-requires c =
-    (here_in c.loop-at.invariant c.if-at-eq0.false).inside
-
-pub loop-at-smaller : goal.loop-at-smaller
-loop-at-smaller c =
-    less-left c.loop-at.invariant c.if-at-eq0.false c.left-at.ensures
-
-pub loop-at-preserved : goal.loop-at-preserved
-loop-at-preserved c =
-    low-left _ c.loop-at.invariant c.if-at-eq0.false c.key-node_key.ensures c.compare-c.ensures c.in-Greater.is c.left-at.ensures
-
-pub returns-then-at-eq0 : goal.returns-then-at-eq0
-returns-then-at-eq0 c =
-    low-ends _ c.loop-at.invariant c.if-at-eq0.true
-
-pub returns-in-Equal : goal.returns-in-Equal
-returns-in-Equal c =
-    low-stops _ c.loop-at.invariant c.if-at-eq0.false c.key-node_key.ensures c.compare-c.ensures c.in-Equal.is
+pub returns : goal.returns
+returns c t a = low_all _ (record { tells = λ i b w q p. search rules }) t a (c.descend.ensures t a)

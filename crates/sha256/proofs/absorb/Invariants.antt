@@ -1,9 +1,8 @@
 use Rattle.sha256.specs.Hash.{hash_value}
-use Rattle.std.proofs.Common.{◌≡◌, ◌-◌, ◌≤◌}
+use Rattle.std.proofs.Common.{◌≡◌, ℕ, List, length}
+use Rattle.std.specs.Simd.{first_chunks}
 use Rattle.sha256.proofs.absorb.Given as goal
 
-abbrev pub invariant-loop-i : goal.invariant-loop-i
-invariant-loop-i l = (l.i ≤ l.k) × (l.s ≡ hash_value (l.initial.s) l.i l.p)
-
-abbrev pub decreases-loop-i : goal.decreases-loop-i
-decreases-loop-i l = l.k - l.i
+abbrev pub invariant-loop-block : goal.invariant-loop-block
+invariant-loop-block l =
+    (p : List ℕ) → l.blocks ≡ first_chunks 64 (length l.blocks) p → l.s ≡ hash_value l.initial.s l.block-index p

@@ -2,12 +2,6 @@ use Rattle.sha256.specs.Hash.{sha256}
 use Rattle.std.proofs.Common.{ap, ◌∙◌, append_assoc}
 use Rattle.sha256.proofs.joined.Goals as goal
 
-pub short-requires : goal.short-requires
-short-requires c = c.total.ensures c.if-total-lt120.true
-
-pub returns-then-total-lt120 : goal.returns-then-total-lt120
-returns-then-total-lt120 c = c.short.ensures
-
 pub returns : goal.returns
 returns c =
     c.finish.ensures _ (c.update-3.ensures _ (c.update-2.ensures _ (c.update.ensures _ c.new.ensures)))

@@ -1,9 +1,6 @@
 use Rattle.sha256_block.specs.Rounds.{block_words}
-use Rattle.std.proofs.Common.{◌≡◌, ◌-◌, ◌≤◌, length, take}
+use Rattle.std.proofs.Common.{◌≡◌, length, take}
 use Rattle.sha256_block.proofs.words.Given as goal
 
 abbrev pub invariant-loop-t : goal.invariant-loop-t
-invariant-loop-t l = (l.t ≤ 16) × (length l.w ≡ 16) × (take l.t l.w ≡ block_words l.t l.block)
-
-abbrev pub decreases-loop-t : goal.decreases-loop-t
-decreases-loop-t l = 16 - l.t
+invariant-loop-t l = (length l.w ≡ 16) × (take l.t l.w ≡ block_words l.t l.block)

@@ -1,6 +1,6 @@
-use Rattle.sha256_words.specs.Words.{XOR, SHR, σ₀}
+use Rattle.sha256_words.specs.Words.{XOR, OR, SHL, SHR, ROTR, σ₀}
 use Rattle.sha256_words.proofs.small_sigma0.Goals as goal
 
 pub returns : goal.returns
-unfolding XOR SHR σ₀
-returns c = cc
+unfolding XOR OR SHL SHR ROTR σ₀
+returns c = rw (c.rotate_right.ensures, c.rotate_right-2.ensures)

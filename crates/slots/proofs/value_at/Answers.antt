@@ -1,7 +1,7 @@
-use borrow.Author.Rules.{rules}
-use Rattle.slots.specs.Layout.{head_at, value_at}
+use Rattle.std.proofs.Common.{rules}
+use Rattle.slots.specs.Layout.{value_at}
 use Rattle.slots.proofs.value_at.Goals as goal
 
 pub returns : goal.returns
-unfolding head_at value_at
+unfolding value_at
 returns c = search rules

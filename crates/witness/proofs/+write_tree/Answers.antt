@@ -15,26 +15,21 @@ pub put_head-requires : goal.put_head-requires
 put_head-requires t c =
     let p = c.requires in
     let h = rw (c.in-Walked.is, nil-bytes c.if-n-eq0.true c.in-Walked.walk c.args.f p.0 p.1) at p.3 in
-    (omega arith, omega arith, omega (arith, h, length-piece 0 []))
+    (omega arith, omega (arith, h, length-piece 0 []))
 
 pub returns-then-n-eq0 : goal.returns-then-n-eq0
 returns-then-n-eq0 t c =
     λ u L. rw (c.in-Walked.is, nil-bytes c.if-n-eq0.true c.in-Walked.walk c.args.f u L) (puts-empty c.put_head.ensures)
 
-pub records_at-x-requires : goal.records_at-x-requires
-records_at-x-requires t c =
-    let p = c.requires in
-    record { entry_at = node-entry c.if-n-eq0.false p.0 p.1; bounds_in = rw c.in-Walked.is at p.2 }
+pub records_at-x-requires-clause-entry_at : goal.records_at-x-requires-clause-entry_at
+records_at-x-requires-clause-entry_at t c =
+    let p = c.requires in node-entry c.if-n-eq0.false p.0 p.1
 
 pub put_fork-a-requires : goal.put_fork-a-requires
 put_fork-a-requires t c =
     let p = c.requires in
     let h = rw c.in-Walked.is at p.3 in
     room₁ c.if-n-eq0.false c.in-Walked.walk c.args.f c.records_at-x.result c.records_at-x.ensures p.0 p.1 c.args.out.now c.args.at h
-
-pub left-requires : goal.left-requires
-left-requires t c =
-    let p = c.requires in (node-entry c.if-n-eq0.false p.0 p.1).inside
 
 pub write_tree-b-requires : goal.write_tree-b-requires
 write_tree-b-requires t c =
@@ -65,10 +60,6 @@ put_middle-d-requires t c =
     let ne = c.if-n-eq0.false in
     let h = rw c.in-Walked.is at p.3 in
     record { entry_at = node-entry ne p.0 p.1; middle_at = rw c.records_at-x.ensures (node-middle ne p.0 p.1 c.in-Walked.walk c.args.f); room = room₄ ne c.in-Walked.walk c.args.f c.records_at-x.result c.records_at-x.ensures p.0 p.1 c.args.out.now c.args.at h c.put_fork-a.ensures (c.write_tree-b.ensures (left p.0) (left-lies ne p.0 p.1 c.left.ensures)) c.put_fork-c.ensures }
-
-pub right-requires : goal.right-requires
-right-requires t c =
-    let p = c.requires in (node-entry c.if-n-eq0.false p.0 p.1).inside
 
 pub write_tree-requires : goal.write_tree-requires
 write_tree-requires t c =

@@ -1,6 +1,5 @@
 use native.Mathlib.Omega.{arith}
 use Rattle.hash_tree.specs.Written.{piece}
-use Rattle.output.proofs.Putting.{puts_none}
 use Rattle.witness.proofs.put_fork.Goals as goal
 
 pub put_head-requires : goal.put_head-requires
@@ -12,7 +11,3 @@ pub returns-then-fork : goal.returns-then-fork
 unfolding piece
 returns-then-fork c =
     rw c.if-fork.true c.put_head.ensures
-
-pub returns : goal.returns
-returns c =
-    rw c.if-fork.false (puts_none c.args.out.now c.args.at)

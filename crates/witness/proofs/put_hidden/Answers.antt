@@ -15,15 +15,7 @@ unfolding piece
 returns-then-n-eq0 c =
     rw c.if-n-eq0.true c.put_head.ensures
 
-pub digest-requires : goal.digest-requires
-digest-requires c =
-    c.requires.hidden_at c.if-n-eq0.false
-
 pub put_piece-requires : goal.put_piece-requires
 put_piece-requires c =
     let h = rw (ne_eqb c.args.n 0 c.if-n-eq0.false) at c.requires.room in
-    rw c.digest.ensures (omega arith, omega (arith, digest-length c.args.s.now c.args.n (c.requires.hidden_at c.if-n-eq0.false)), h)
-
-pub returns : goal.returns
-returns c =
-    rw (ne_eqb c.args.n 0 c.if-n-eq0.false) (rw c.digest.ensures at c.put_piece.ensures)
+    rw c.digest.ensures (omega (arith, digest-length c.args.s.now c.args.n (c.requires.hidden_at c.if-n-eq0.false)), h)

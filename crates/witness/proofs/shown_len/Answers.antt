@@ -1,12 +1,6 @@
-use mathlib.Core.Path.{ap}
 use native.Mathlib.Omega.{arith}
-use lib.ListN.{length}
 use Rattle.witness.proofs.Lengths.{key-short, value-short, hide-length, label-length, show-length}
 use Rattle.witness.proofs.shown_len.Goals as goal
-
-pub overflow_add-result-in-Show-2 : goal.overflow_add-result-in-Show-2
-overflow_add-result-in-Show-2 c =
-    omega (arith, ap length c.key-in-Show.ensures, ap length c.value.ensures, key-short c.args.s.now c.args.n c.requires, value-short c.args.s.now c.args.n c.requires)
 
 pub returns-in-Hide : goal.returns-in-Hide
 returns-in-Hide c =

@@ -1,11 +1,8 @@
+use Rattle.std.proofs.Common.{◌≡◌, length}
 use Rattle.rb_tree.specs.Stores.{HasStale}
-use mathlib.Core.Path.{◌≡◌}
-use Prim.Native.Nat.{◌≤◌, ◌-◌, ◌+◌}
-use lib.ListN.{length}
 use Rattle.regmap.proofs.build.put_lines.Given as goal
 
-abbrev pub invariant-loop-at : goal.invariant-loop-at
-invariant-loop-at l = HasStale l.store × (length l.store ≡ length l.initial.store) × (l.line ≤ l.at + 1)
-
-abbrev pub decreases-loop-at : goal.decreases-loop-at
-decreases-loop-at l = length l.text - l.at
+abbrev pub invariant-loop-i : goal.invariant-loop-i
+invariant-loop-i l =
+    (goal.iterator-loop-i).can_next l.i-iterator × (goal.iterator-loop-i).is_finite l.i-iterator
+    × HasStale l.store × (length l.store ≡ length l.initial.store)

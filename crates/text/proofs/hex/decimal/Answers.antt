@@ -1,19 +1,19 @@
-use mathlib.Core.Path.{sym, ◌∙◌}
-use native.Mathlib.Omega.{arith}
+use Rattle.std.proofs.Common.{sym, ◌∙◌, arith}
+use borrow.Author.Tests.{eqb-true, eqb-false}
 use Rattle.text.proofs.Numbers.{no-digits, begins, ends, at_other, at-digit}
 use Rattle.text.proofs.hex.decimal.Goals as goal
 
-pub returns-then-word-eq0 : goal.returns-then-word-eq0
-returns-then-word-eq0 c = no-digits c.args.word.now c.if-word-eq0.true
+pub returns-then-is_empty : goal.returns-then-is_empty
+returns-then-is_empty c = no-digits c.args.word.now (eqb-true _ _ (sym c.is_empty.ensures ∙ c.if-is_empty.true))
 
-pub loop-i-init : goal.loop-i-init
-loop-i-init c = begins c.args.word.now c.if-word-eq0.false
+pub loop-b-init : goal.loop-b-init
+loop-b-init c = begins c.args.word.now (eqb-false _ _ (sym c.is_empty.ensures ∙ c.if-is_empty.false))
 
-pub returns-in_default : goal.returns-in_default
-returns-in_default c = at_other c.loop-i.invariant (omega arith) (sym c.appended.ensures ∙ c.in_default.is)
+pub returns-in_err-n : goal.returns-in_err-n
+returns-in_err-n c = c.from_residual.ensures ∙ at_other c.loop-b.invariant (omega arith) (sym c.appended.ensures ∙ c.in_err-n.was)
 
-pub loop-i-preserved : goal.loop-i-preserved
-loop-i-preserved c = at-digit c.loop-i.invariant (omega arith) _ (sym c.appended.ensures ∙ c.in-Is.is)
+pub loop-b-preserved : goal.loop-b-preserved
+loop-b-preserved c = at-digit c.loop-b.invariant (omega arith) _ (sym c.appended.ensures ∙ c.in_ok-n.was)
 
 pub returns : goal.returns
-returns c = ends c.loop-i.invariant (omega arith)
+returns c = ends c.loop-b.invariant (omega arith)

@@ -1,19 +1,11 @@
-use mathlib.Core.Path.{refl}
-use native.Mathlib.Omega.{arith}
-use Rattle.text.proofs.Printing.{ends, at-blank, at-odd, at-printable}
+use Rattle.std.proofs.Common.{◌∙◌, rules}
+use Rattle.std.proofs.lemmas.Iterator.{YieldsList-from_slice}
+use Rattle.std.proofs.lemmas.Iterator.Search.{all_from_yields_List}
+use borrow.Author.Tests.{tests}
+use Rattle.text.specs.Hex.{between}
+use Rattle.text.proofs.Names.{each-printable}
 use Rattle.text.proofs.print.all_printable.Goals as goal
 
-pub loop-i-init : goal.loop-i-init
-loop-i-init c = record { in-s = omega arith; rest = refl }
-
-pub returns-then-s-i-le32 : goal.returns-then-s-i-le32
-returns-then-s-i-le32 c = at-blank c.loop-i.invariant (omega arith) (omega arith)
-
-pub returns-then-s-i-gt126 : goal.returns-then-s-i-gt126
-returns-then-s-i-gt126 c = at-odd c.loop-i.invariant (omega arith) (omega arith)
-
-pub loop-i-preserved : goal.loop-i-preserved
-loop-i-preserved c = at-printable c.loop-i.invariant (omega arith) (omega arith) (omega arith)
-
 pub returns : goal.returns
-returns c = ends c.loop-i.invariant (omega arith)
+returns c =
+    all_from_yields_List (between 33 126) _ _ _ c.all.ensures.ran (YieldsList-from_slice _ c.iter.ensures.rest) (λ x b q k. search (rules, tests)) ∙ each-printable c.args.s.now

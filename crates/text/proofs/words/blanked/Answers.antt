@@ -1,20 +1,10 @@
-use Rattle.text.proofs.Lines.{blank_first, blank-next, blank-all}
-use mathlib.Core.Path.{◌≡◌, refl, ap, ◌∙◌}
-use native.Mathlib.Omega.{arith}
-use Prim.Native.Nat.{ℕ}
-use lib.ListN.{length, length-set}
+use Rattle.std.proofs.Common.{ℕ, get_or, arith}
+use Rattle.std.proofs.lemmas.List.{get_or_default}
+use Rattle.std.proofs.lemmas.List.Edits.{map_over_more}
+use Rattle.text.specs.Words.{unblank_of}
 use Rattle.text.proofs.words.blanked.Goals as goal
 
-pub loop-i-init : goal.loop-i-init
-loop-i-init c = (refl, omega arith, refl)
-
-pub loop-i-smaller : goal.loop-i-smaller
-loop-i-smaller c = simp length-set (omega arith)
-
-pub loop-i-preserved : goal.loop-i-preserved
-loop-i-preserved c =
-    (simp length-set c.loop-i.invariant.0, omega (arith, c.loop-i.invariant.0), blank-next c.args.s.now _ c.loop-i.i _ (omega (arith, c.loop-i.invariant.0)) c.loop-i.invariant.2 c.unblank.ensures)
-
-pub returns : goal.returns
-returns c =
-    let e : c.loop-i.i ≡ length c.args.s.now = omega (arith, c.loop-i.invariant.0) in c.loop-i.invariant.2 ∙ ap (λ (n : ℕ). blank_first n c.args.s.now) e ∙ blank-all c.args.s.now
+pub loop-b-preserved : goal.loop-b-preserved
+loop-b-preserved c =
+    let b : ℕ = get_or c.loop-b.s c.loop-b.b-index 0 in
+    rw c.unblank.ensures (map_over_more unblank_of c.args.s.now c.loop-b.s c.loop-b.b-index b c.loop-b-test.true c.loop-b.invariant (get_or_default c.loop-b.s c.loop-b.b-index 0 b (omega arith)))

@@ -1,19 +1,11 @@
-use mathlib.Core.Path.{refl, sym, ◌∙◌}
-use native.Mathlib.Omega.{arith}
-use Rattle.text.proofs.Lines.{find-next, find-stops, find-ends}
+use Rattle.std.proofs.Common.{◌≡◌, ◌≢◌, ◌+◌, ap, sym, ◌∙◌, rules}
+use Rattle.std.proofs.lemmas.Iterator.{YieldsList-from_slice, IsFirst-from_position}
+use borrow.Author.Tests.{tests}
+use Rattle.text.specs.Words.{index_of}
+use Rattle.text.proofs.Lines.{from_on, index_found}
 use Rattle.text.proofs.words.find.Goals as goal
 
-pub loop-i-init : goal.loop-i-init
-loop-i-init c = (omega arith, omega arith, refl)
-
-pub returns-then-s-i : goal.returns-then-s-i
-returns-then-s-i c =
-    record { lower_bound = (omega arith, omega arith); value = find-stops c.args.s.now c.loop-i.i c.args.b (omega arith) c.if-s-i.true ∙ sym c.loop-i.invariant.2 }
-
-pub loop-i-preserved : goal.loop-i-preserved
-loop-i-preserved c =
-    (omega arith, omega arith, c.loop-i.invariant.2 ∙ find-next c.args.s.now c.loop-i.i c.args.b (omega arith) c.if-s-i.false)
-
-pub returns : goal.returns
-returns c =
-    record { lower_bound = (omega arith, omega arith); value = find-ends c.args.s.now c.loop-i.i c.args.b (omega arith) ∙ sym c.loop-i.invariant.2 }
+pub returns-clause-value : goal.returns-clause-value
+returns-clause-value c =
+    ap (λ r. c.args.from + r) (c.unwrap_or.ensures ∙ sym (index_found c.args.b _ _ (IsFirst-from_position _ _ _ (λ x. x ≡ c.args.b) (λ x. x ≢ c.args.b) c.position.ensures.ran (YieldsList-from_slice _ c.iter.ensures.rest) (λ x q k. search (rules, tests)) (λ x q k. search (rules, tests))))
+    ∙ ap (index_of c.args.b) (from_on c.args.s.now c.args.from))

@@ -1,20 +1,10 @@
-use mathlib.Core.Path.{refl}
-use native.Mathlib.Omega.{arith}
-use Rattle.text.proofs.Lines.{index-first, index-found, index-next, index-ends}
+use Rattle.std.proofs.Common.{◌≡◌, true, false, rules, arith}
+use Rattle.std.proofs.lemmas.Iterator.{first_from_Range}
+use borrow.Author.Tests.{tests}
+use Rattle.text.specs.Words.{same_bytes, word_of}
+use Rattle.text.proofs.Lines.{index_first}
 use Rattle.text.proofs.words.index.Goals as goal
 
-pub loop-i-init : goal.loop-i-init
-loop-i-init c =
-    (omega arith, index-first c.args.table.now c.args.name.now c.args.count 0 refl)
-
-pub returns-then-is : goal.returns-then-is
-returns-then-is c =
-    record { upper_bound = omega arith; value = index-found c.args.table.now c.args.name.now c.args.count c.loop-i.i (omega arith) c.loop-i.invariant.1 _ c.word.ensures _ c.is.ensures c.if-is.true }
-
-pub loop-i-preserved : goal.loop-i-preserved
-loop-i-preserved c =
-    (omega arith, index-next c.args.table.now c.args.name.now c.args.count c.loop-i.i (omega arith) c.loop-i.invariant.1 _ c.word.ensures _ c.is.ensures c.if-is.false)
-
-pub returns : goal.returns
-returns c =
-    record { upper_bound = omega arith; value = index-ends c.args.table.now c.args.name.now c.args.count c.loop-i.i (omega arith) c.loop-i.invariant.1 }
+pub returns-clause-value : goal.returns-clause-value
+returns-clause-value c =
+    index_first c.args.table.now c.args.name.now 0 c.args.count c.args.count (omega arith) _ (first_from_Range _ _ _ _ (λ i. same_bytes (word_of c.args.table.now i) c.args.name.now ≡ true) (λ i. same_bytes (word_of c.args.table.now i) c.args.name.now ≡ false) c.find.ensures.ran (λ x q k. search (rules, tests)) (λ x q k. search (rules, tests)))

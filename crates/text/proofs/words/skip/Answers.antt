@@ -1,19 +1,11 @@
-use mathlib.Core.Path.{refl, sym, ◌∙◌}
-use native.Mathlib.Omega.{arith}
-use Rattle.text.proofs.Lines.{skip-next, skip-stops, skip-ends}
+use Rattle.std.proofs.Common.{◌≡◌, ◌≢◌, ◌+◌, ap, sym, ◌∙◌, rules}
+use Rattle.std.proofs.lemmas.Iterator.{YieldsList-from_slice, IsFirst-from_position}
+use borrow.Author.Tests.{tests}
+use Rattle.text.specs.Words.{zeros_before}
+use Rattle.text.proofs.Lines.{from_on, zeros_found}
 use Rattle.text.proofs.words.skip.Goals as goal
 
-pub loop-i-init : goal.loop-i-init
-loop-i-init c = (omega arith, omega arith, refl)
-
-pub returns-then-s-i-ne0 : goal.returns-then-s-i-ne0
-returns-then-s-i-ne0 c =
-    record { lower_bound = (omega arith, omega arith); value = skip-stops c.args.s.now c.loop-i.i (omega arith) c.if-s-i-ne0.true ∙ sym c.loop-i.invariant.2 }
-
-pub loop-i-preserved : goal.loop-i-preserved
-loop-i-preserved c =
-    (omega arith, omega arith, c.loop-i.invariant.2 ∙ skip-next c.args.s.now c.loop-i.i (omega arith) c.if-s-i-ne0.false)
-
-pub returns : goal.returns
-returns c =
-    record { lower_bound = (omega arith, omega arith); value = skip-ends c.args.s.now c.loop-i.i (omega arith) ∙ sym c.loop-i.invariant.2 }
+pub returns-clause-value : goal.returns-clause-value
+returns-clause-value c =
+    ap (λ r. c.args.from + r) (c.unwrap_or.ensures ∙ sym (zeros_found _ _ (IsFirst-from_position _ _ _ (λ x. x ≢ 0) (λ x. x ≡ 0) c.position.ensures.ran (YieldsList-from_slice _ c.iter.ensures.rest) (λ x q k. search (rules, tests)) (λ x q k. search (rules, tests))))
+    ∙ ap zeros_before (from_on c.args.s.now c.args.from))

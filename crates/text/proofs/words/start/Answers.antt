@@ -1,15 +1,10 @@
-use native.Mathlib.Omega.{arith}
-use Rattle.text.proofs.Lines.{start_first, start-next, start-ends}
+use Rattle.text.proofs.Lines.{start_first, start-next}
 use Rattle.text.proofs.words.start.Goals as goal
 
-pub loop-left-init : goal.loop-left-init
-loop-left-init c =
-    (c.skip-at.ensures.lower_bound.1, omega arith, start_first c.args.line.now c.args.k _ c.skip-at.ensures.value)
+pub loop-init : goal.loop-init
+loop-init c =
+    record { within = c.skip-at.ensures.lower_bound.1; reached = start_first c.args.line.now 0 _ c.skip-at.ensures.value }
 
-pub loop-left-preserved : goal.loop-left-preserved
-loop-left-preserved c =
-    (c.skip-at-in-loop-left.ensures.lower_bound.1, omega arith, start-next c.args.line.now c.args.k _ _ _ _ (omega arith) (omega arith) c.loop-left.invariant.2 c.find.ensures.value c.skip-at-in-loop-left.ensures.value)
-
-pub returns : goal.returns
-returns c =
-    record { upper_bound = c.loop-left.invariant.0; value = start-ends c.args.line.now c.args.k _ _ (omega arith) c.loop-left.invariant.2 }
+pub loop-preserved : goal.loop-preserved
+loop-preserved c =
+    record { within = c.skip-at-in-loop.ensures.lower_bound.1; reached = start-next c.args.line.now _ _ _ _ c.loop.invariant.reached c.find.ensures.value c.skip-at-in-loop.ensures.value }

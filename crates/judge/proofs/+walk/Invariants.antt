@@ -1,4 +1,0 @@
-use Rattle.judge.proofs.+walk.Given as goal
-
-abbrev pub decreases-walk : goal.decreases-walk
-decreases-walk l = l.depth

@@ -1,2 +1,0 @@
--- A batch of inserts.
-pub mod Batching

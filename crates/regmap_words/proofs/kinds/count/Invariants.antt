@@ -1,8 +1,0 @@
-use Prim.Native.Nat.{◌-◌}
-use Rattle.regmap_words.proofs.kinds.count.Given as goal
-
-abbrev pub invariant-loop-n : goal.invariant-loop-n
-invariant-loop-n l = Unit {0}
-
-abbrev pub decreases-loop-n : goal.decreases-loop-n
-decreases-loop-n l = 7 - l.n

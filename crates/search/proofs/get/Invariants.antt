@@ -1,9 +1,0 @@
-use Rattle.store.specs.Decode.{entries_below}
-use Rattle.search.proofs.Searches.{AtGet}
-use Rattle.search.proofs.get.Given as goal
-
-abbrev pub invariant-loop-at : goal.invariant-loop-at
-invariant-loop-at l = AtGet l.s l.root l.key l.at
-
-abbrev pub decreases-loop-at : goal.decreases-loop-at
-decreases-loop-at l = entries_below l.s l.at
