@@ -194,7 +194,7 @@ def point5():
             m = re.match(r'requires (?:\w+ )?\{ (.*) \}$', c)
             if m:
                 for part in m.group(1).split(' × '):
-                    facts[(crate, re.sub(r'\.(old|now)', '', part.strip('() ')))].append((path, line, name))
+                    facts[(crate, re.sub(r'\.(old|now)\b', '', part.strip('() ')))].append((path, line, name))
     for (crate, fact), places in facts.items():
         if len(places) >= 3:
             yield 'a fact in the requires of three functions or more of a crate', places[0][0], places[0][1], '%s (%d functions)' % (fact, len(places))
@@ -220,7 +220,7 @@ def point6():
     for path, text in FILES.items():
         for m in re.finditer(r'(?m)^(?:pub )?const (\w+): \[u8; \d+\] =\s*\*b"', text):
             yield 'a text in an array whose length is counted', path, line_of(text, m.start()), m.group(1)
-        for m in re.finditer(r'let mut (\w+) = \[0u8; [\w_]+\];', text):
+        for m in re.finditer(r'let mut (\w+) = (?:\[0u8; [\w_]+\]|zeros::<[\w:{}_ +]+>\(\));', text):
             yield 'a buffer of fixed length on the stack', path, line_of(text, m.start()), m.group(1)
 
 
