@@ -1,5 +1,5 @@
 -- What the walk that judges finds, by the record at its place, over plain lists.
-use Prim.Native.Nat.{ℕ, zero, suc, ◌+◌, ◌-◌, ◌<◌, ◌≤◌}
+use Prim.Native.Nat.{ℕ, zero, suc, ◌+◌, ◌-◌, ◌≤◌}
 use mathlib.Core.Path.{◌≡◌, refl, sym, ap, ◌∙◌}
 use mathlib.Core.List.{List, [], ◌∷◌, ◌++◌}
 use native.Mathlib.Omega.{arith}
@@ -21,7 +21,7 @@ use Rattle.output.proofs.Putting.{room-then}
 use Rattle.cbor.specs.declared.Way.{Way}
 use Rattle.cbor.specs.declared.Way.TheVariants.{Writing, Reading}
 use Rattle.cbor.specs.declared.Met.{Met}
-use Rattle.cbor.specs.Walks.{source, target, Lies, Takes, met_of}
+use Rattle.cbor.specs.Walks.{source, target, Lies, Takes, code_of, room_of, met_of}
 use Rattle.cbor.proofs.Opens as cbor-laws
 use Rattle.cbor.proofs.Sizes.{own-most}
 
@@ -32,6 +32,17 @@ opens Reading = cbor-laws.opening
 nil-of : (y : List ℕ) → length y ≡ 0 → y ≡ []
 nil-of [] e = refl
 nil-of (i ∷ y) e = absurd (omega (arith, e))
+
+-- ---- room, as a number
+
+pub room-code : (r : Option ℕ) → room_of (code_of r) ≡ r
+room-code None = refl
+room-code (Some m) = refl
+
+-- a room that is short, or too small, is short after n bytes
+pub less-short : (room n : ℕ) → room ≤ n → 0 ≡ code_of (room_after n (room_of room))
+less-short zero n h = refl
+less-short (suc m) n h = rw (lt-leb n m (omega arith))
 
 -- ---- by the kind of a record, for any two forms
 
@@ -53,11 +64,11 @@ module _ (n : ℕ) (g : Form) (room : Option ℕ) where
 
   -- what is left of s after the first child is s from the place on that the walk found
   pub fork-met : (s : List ℕ) (p : List ℕ → Parsed) (m : ℕ) (l : Met) (q : Option Met) (z : Parsed) → n ≡ length s → ((t : HashTree) (rest : List ℕ) → z ≡ Got t rest → drop (n - length rest) s ≡ rest) → m ≡ length (g.put 1 [])
-      → Some l ≡ met_of n g (room_after m room) z → q ≡ met_of n g l.room (p (drop l.next s)) → q ≡ met_of n g room (fork p z)
+      → Some l ≡ met_of n g (room_after m room) z → q ≡ met_of n g (room_of l.room) (p (drop l.next s)) → q ≡ met_of n g room (fork p z)
   fork-met s p m l q (Got t rest) en b em e h =
-      let f : l ≡ record { next = n - length rest; room = room_after (length (write_by g t)) (room_after m room) } = cc in
+      let f : l ≡ record { next = n - length rest; room = code_of (room_after (length (write_by g t)) (room_after m room)) } = cc in
       let x : l.next ≡ n - length rest = ap (λ (y : Met). y.next) f in
-      let y : l.room ≡ room_after (length (write_by g t)) (room_after m room) = ap (λ (y : Met). y.room) f in
+      let y : room_of l.room ≡ room_after (length (write_by g t)) (room_after m room) = ap (λ (y : Met). room_of y.room) f ∙ room-code (room_after (length (write_by g t)) (room_after m room)) in
       let i : q ≡ met_of n g (room_after (length (write_by g t)) (room_after m room)) (p rest) = rw (x, y, b t rest refl) at h in
       i ∙ forked-met t m (p rest) em
   fork-met s p m l q Bad en b em e h = cc
@@ -69,7 +80,7 @@ module _ (n : ℕ) (g : Form) (room : Option ℕ) where
   labeled-met b m Bad e = refl
 
   pub single-met : (p : List ℕ → Parsed) (k m x : ℕ) (b r : List ℕ) → Fits k b → (k ≡ 1 → ⊥) → (k ≡ 2 → ⊥) → m ≡ length (g.put k b) → x ≡ n - length r
-      → Some (record { next = x; room = room_after m room }) ≡ met_of n g room (by_kind p k b r)
+      → Some (record { next = x; room = code_of (room_after m room) }) ≡ met_of n g room (by_kind p k b r)
   unfolding most
   single-met p zero m x [] r h h₁ h₂ e f = rw (e, f)
   single-met p zero m x (y ∷ b) r h h₁ h₂ e f = absurd (not-suc-le-zero h.high)
@@ -109,11 +120,6 @@ lies-length s k start len f h = length-take-le len (drop start s) (omega (arith,
 pub lies-most : (s : List ℕ) (k start len : ℕ) (f : Front) → Lies s k start len f → len ≤ 64
 lies-most s k start len f h = omega (arith, lies-length s k start len f h, h.lawful.high, own-most k)
 
--- a room that is short, or too small, is short after n bytes
-pub less-short : (room : Option ℕ) (n : ℕ) → ((m : ℕ) → room ≡ Some m → m < n) → None ≡ room_after n room
-less-short None n h = refl
-less-short (Some m) n h = rw (lt-leb n m (h m refl))
-
 module _ (way : Way) (s : List ℕ) (at d k start len m : ℕ) (room : Option ℕ) (pos : d ≡ 0 → ⊥) (h : Lies s k start len ((source way).front (drop at s))) (takes : Takes way k len m) where
   abbrev Answers : Option Met → Type 0
   Answers q = q ≡ met_of (length s) (target way) room (parse_by (source way) d (drop at s))
@@ -138,22 +144,22 @@ module _ (way : Way) (s : List ℕ) (at d k start len m : ℕ) (room : Option �
     at_fork : parse_by (source way) d (drop at s) ≡ fork (parse_by (source way) (d - 1)) (parse_by (source way) (d - 1) (drop (start + len) s))
     at_fork = by-kind ∙ rw e
 
-    pub judged-fork-bad : (r : Option ℕ) → None ≡ met_of (length s) (target way) r (parse_by (source way) (d - 1) (drop (start + len) s)) → Answers None
-    judged-fork-bad r i = rw at_fork (fork-bad (length s) (target way) room (parse_by (source way) (d - 1)) r (parse_by (source way) (d - 1) (drop (start + len) s)) i)
+    pub judged-fork-bad : (r : ℕ) → None ≡ met_of (length s) (target way) (room_of r) (parse_by (source way) (d - 1) (drop (start + len) s)) → Answers None
+    judged-fork-bad r i = rw at_fork (fork-bad (length s) (target way) room (parse_by (source way) (d - 1)) (room_of r) (parse_by (source way) (d - 1) (drop (start + len) s)) i)
 
-    pub judged-fork : Bytes s → (r : Option ℕ) (l : Met) (q : Option Met) → r ≡ room_after m room → Some l ≡ met_of (length s) (target way) r (parse_by (source way) (d - 1) (drop (start + len) s))
-        → q ≡ met_of (length s) (target way) l.room (parse_by (source way) (d - 1) (drop l.next s)) → Answers q
+    pub judged-fork : Bytes s → (r : ℕ) (l : Met) (q : Option Met) → r ≡ code_of (room_after m room) → Some l ≡ met_of (length s) (target way) (room_of r) (parse_by (source way) (d - 1) (drop (start + len) s))
+        → q ≡ met_of (length s) (target way) (room_of l.room) (parse_by (source way) (d - 1) (drop l.next s)) → Answers q
     judged-fork bs r l q er i x =
         rw at_fork
         (fork-met (length s) (target way) room s (parse_by (source way) (d - 1)) m l q (parse_by (source way) (d - 1) (drop (start + len) s)) refl
-        (left (source way) (opens way) s (d - 1) (start + len) bs h.within) fork-size (rw er at i) x)
+        (left (source way) (opens way) s (d - 1) (start + len) bs h.within) fork-size (rw (er, room-code (room_after m room)) at i) x)
 
-  pub judged-labeled : k ≡ 2 → (r : Option ℕ) (q : Option Met) → r ≡ room_after m room → q ≡ met_of (length s) (target way) r (parse_by (source way) (d - 1) (drop (start + len) s)) → Answers q
+  pub judged-labeled : k ≡ 2 → (r : ℕ) (q : Option Met) → r ≡ code_of (room_after m room) → q ≡ met_of (length s) (target way) (room_of r) (parse_by (source way) (d - 1) (drop (start + len) s)) → Answers q
   judged-labeled e r q er i =
       let f : parse_by (source way) d (drop at s) ≡ labeled bytes (parse_by (source way) (d - 1) (drop (start + len) s)) = by-kind ∙ rw e in
-      i ∙ rw (er, f) (labeled-met (length s) (target way) room bytes m (parse_by (source way) (d - 1) (drop (start + len) s)) (rw e at size))
+      i ∙ rw (er, room-code (room_after m room), f) (labeled-met (length s) (target way) room bytes m (parse_by (source way) (d - 1) (drop (start + len) s)) (rw e at size))
 
-  pub judged-single : (k ≡ 1 → ⊥) → (k ≡ 2 → ⊥) → (r : Option ℕ) → r ≡ room_after m room → Answers (Some (record { next = start + len; room = r }))
+  pub judged-single : (k ≡ 1 → ⊥) → (k ≡ 2 → ⊥) → (r : ℕ) → r ≡ code_of (room_after m room) → Answers (Some (record { next = start + len; room = r }))
   judged-single h₁ h₂ r er =
       rw (by-kind, er)
       (single-met (length s) (target way) room (parse_by (source way) (d - 1)) k m (start + len) bytes (drop (start + len) s) h.lawful h₁ h₂ size (omega (arith, length-drop (start + len) s, h.within)))

@@ -1,5 +1,5 @@
 -- The answers of the functions below `write_cbor` and `read_cbor`, as values and relations. Definitions only.
-use Rattle.std.specs.Prelude.{◌≡◌, List, [], ◌∷◌, ℕ, ◌+◌, ◌-◌, ◌≤◌, length, take, drop, Option, Some, None}
+use Rattle.std.specs.Prelude.{◌≡◌, List, [], ◌∷◌, ℕ, zero, suc, ◌+◌, ◌-◌, ◌≤◌, length, take, drop, Option, Some, None}
 use Rattle.answers.specs.declared.Refusal.{Refusal}
 use Rattle.answers.specs.declared.Refusal.TheVariants.{Malformed, NotCbor}
 use Rattle.hash_tree.specs.Record.{kind_number}
@@ -52,9 +52,18 @@ Takes way k n m = (b : List ℕ) → length b ≡ n → m ≡ length ((target wa
 
 -- ---- a tree, judged
 
+-- a room as one number: one more than what is left, 0 if it is short
+abbrev pub code_of : Option ℕ → ℕ
+code_of None = 0
+code_of (Some m) = suc m
+
+abbrev pub room_of : ℕ → Option ℕ
+room_of zero = None
+room_of (suc m) = Some m
+
 -- the place after a tree that was read in a list of n, and what its other form leaves of the room
 abbrev pub met_of : (n : ℕ) → Form → Option ℕ → Parsed → Option Met
-met_of n g room (Got t rest) = Some (record { next = n - length rest; room = room_after (length (write_by g t)) room })
+met_of n g room (Got t rest) = Some (record { next = n - length rest; room = code_of (room_after (length (write_by g t)) room) })
 met_of n g room Bad = None
 
 -- ---- records put one after the other

@@ -7,14 +7,14 @@ ghost use Rattle.answers.specs.Answers.{answered};
 ghost use Rattle.hash_tree.specs.Record.{kind_number};
 ghost use Rattle.hash_tree.specs.Written.{max_depth};
 ghost use Rattle.hash_tree.specs.Form.{Fits, parse_by};
-ghost use Rattle.output.specs.Putting.{Puts};
+ghost use Rattle.output.specs.Putting.{Puts, room_after};
 ghost use Rattle.cbor.specs.Cbor.{array_of, string_head, put_cbor, sized, cbor_front};
 ghost use Rattle.cbor.specs.Answer.{cbor_written, cbor_read};
-ghost use Rattle.cbor.specs.Walks.{source, target, refusal_of, source_of, exchanged, Reads, Takes, met_of, CanPut, Wrote};
+ghost use Rattle.cbor.specs.Walks.{source, target, refusal_of, source_of, exchanged, Reads, Takes, code_of, room_of, met_of, CanPut, Wrote};
 
 use answers::Refusal;
 use hash_tree::{Kind, MAX_DEPTH, least_len, left_at, most_len, record_at, wide};
-use output::{less, put_bytes, put_piece};
+use output::{put_bytes, put_piece};
 
 // The longest byte string whose head is one byte, plus one; and what such a head, and one of two bytes, begins with.
 const SHORT: usize = 24;
@@ -38,11 +38,12 @@ pub struct Item {
     pub len: usize,
 }
 
-// A tree that may be exchanged: the place after it, and the room that its other form leaves, if there is enough.
+// A tree that may be exchanged: the place after it, and the room that its other form leaves, as one number: one more than what is left, 0 if it
+// is short. A number goes through calls in a register.
 #[derive(Clone, Copy)]
 pub struct Met {
     pub next: usize,
-    pub room: Option<usize>,
+    pub room: usize,
 }
 
 // An Empty or a Fork has no bytes of its own.
@@ -213,11 +214,18 @@ fn put_item(out: &mut [u8], at: usize, way: Way, kind: Kind, src: &[u8]) -> usiz
 
 // ---- the tree
 
+// `n` bytes out of a room, as `Met` has it.
+fn less(room: usize, n: usize) -> usize
+    ensures { result ≡ code_of (room_after n (room_of room)) }
+{
+    room.saturating_sub(n)
+}
+
 // Judges the tree at a place, at most `depth` records deep, and takes the room of its other form. Only a Fork's first child is a call: what
 // stands in a tree's last place goes on here.
-fn judge(s: &[u8], start: usize, depth: usize, room: Option<usize>, way: Way) -> Option<Met>
+fn judge(s: &[u8], start: usize, depth: usize, room: usize, way: Way) -> Option<Met>
     requires { depth ≤ max_depth }
-    ensures { result ≡ met_of (length s.now) (target way) room (parse_by (source way) depth (drop start s.now)) }
+    ensures { result ≡ met_of (length s.now) (target way) (room_of room) (parse_by (source way) depth (drop start s.now)) }
 {
     let mut at = start;
     let mut left = room;
@@ -272,9 +280,11 @@ fn refusal(way: Way) -> Refusal
 fn exchange(s: &[u8], out: &mut [u8], way: Way) -> Result<usize, Refusal>
     ensures { answered result out.new ≡ exchanged way s.now out.old }
 {
-    match judge(s, 0, MAX_DEPTH, Some(out.len()), way) {
+    match judge(s, 0, MAX_DEPTH, out.len() + 1, way) {
         Some(met) if met.next == s.len() => {
-            met.room.ok_or(Refusal::NoRoom)?;
+            if met.room == 0 {
+                return Err(Refusal::NoRoom);
+            }
             Ok(put_items(s, out, way))
         }
         _ => Err(refusal(way)),

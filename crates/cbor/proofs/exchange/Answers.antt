@@ -1,23 +1,15 @@
-use borrow.Author.Rules.{rules}
-use mathlib.Core.Path.{◌≡◌}
 use native.Mathlib.Omega.{arith}
-use Rattle.std.specs.Prelude.{Some, None, Err}
-use Rattle.answers.specs.declared.Refusal.TheVariants.{NoRoom}
 use Rattle.cbor.proofs.Answering.{no_room, can-put, was-put}
 use Rattle.cbor.proofs.exchange.Goals as goal
 
-pub returns-in_err-ok_or-in-Some : goal.returns-in_err-ok_or-in-Some
-returns-in_err-ok_or-in-Some c =
-    let e : c.from_residual.result ≡ Err NoRoom = search rules in
-    let r : c.in-Some.met.room ≡ None = search rules in
-    rw e (no_room c.args.way c.args.s.now c.args.out.now (λ i. omega (arith, c.type_inv.s i)) c.in-Some.met c.in-Some.ensures (omega (arith, c.if-met-s.true)) r)
+pub returns-then-met-eq0 : goal.returns-then-met-eq0
+returns-then-met-eq0 c =
+    no_room c.args.way c.args.s.now c.args.out.now (λ i. omega (arith, c.type_inv.s i)) c.in-Some.met c.in-Some.ensures (omega (arith, c.if-met-s.true)) c.if-met-eq0.true
 
 pub put_items-requires : goal.put_items-requires
 put_items-requires c =
-    let r : c.in-Some.met.room ≡ Some c.in_ok-ok_or-in-Some.field-0 = search rules in
-    can-put c.args.way c.args.s.now c.args.out.now (λ i. omega (arith, c.type_inv.s i)) c.in-Some.met c.in-Some.ensures (omega (arith, c.if-met-s.true)) _ r
+    can-put c.args.way c.args.s.now c.args.out.now (λ i. omega (arith, c.type_inv.s i)) c.in-Some.met c.in-Some.ensures (omega (arith, c.if-met-s.true)) c.if-met-eq0.false
 
-pub returns-in_ok-ok_or-in-Some : goal.returns-in_ok-ok_or-in-Some
-returns-in_ok-ok_or-in-Some c =
-    let r : c.in-Some.met.room ≡ Some c.in_ok-ok_or-in-Some.field-0 = search rules in
-    was-put c.args.way c.args.s.now c.args.out.now (λ i. omega (arith, c.type_inv.s i)) c.in-Some.met c.in-Some.ensures (omega (arith, c.if-met-s.true)) _ _ _ r c.put_items.ensures
+pub returns-else-met-eq0 : goal.returns-else-met-eq0
+returns-else-met-eq0 c =
+    was-put c.args.way c.args.s.now c.args.out.now (λ i. omega (arith, c.type_inv.s i)) c.in-Some.met c.in-Some.ensures (omega (arith, c.if-met-s.true)) _ _ c.if-met-eq0.false c.put_items.ensures
