@@ -179,8 +179,8 @@ fn witness_range_below(s: &[u8], n: usize, hi: KeyBound, f: What) -> Arm
     }
 }
 
-// The Rust's arms on (lo.cmp(k), k.cmp(hi)). `lo` is not above `hi`: so a key below `lo` is below `hi`, and the last arm, for a key
-// below `lo` and above `hi`, is never met (proofs/Never) and is left out.
+// The Rust's arms on (lo.cmp(k), k.cmp(hi)). `lo` is not above `hi`: so a key below `lo` needs no look at `hi`, and the last arm, for a
+// key below `lo` and above `hi`, is never met (proofs/Never) and is left out.
 fn witness_range_between(s: &[u8], n: usize, lo: KeyBound, hi: KeyBound, f: What) -> Arm
     requires entry_at { EntryAt s.now n }
     requires low_at { EntryAt s.now (slot_of lo) }
@@ -188,35 +188,43 @@ fn witness_range_between(s: &[u8], n: usize, lo: KeyBound, hi: KeyBound, f: What
     ensures { result ≡ between_arms lo hi f (cmp (key_in s.now (slot_of lo)) (key_in s.now n)) (cmp (key_in s.now n) (key_in s.now (slot_of hi))) }
 {
     let go = Part::Walked(Walk::Between(lo, hi));
-    match (compare_keys(s, lo.slot(), n), compare_keys(s, n, hi.slot())) {
-        (Ordering::Less, Ordering::Less) => Arm {
-            left: go,
-            middle: f,
-            right: go,
+    match compare_keys(s, lo.slot(), n) {
+        Ordering::Less => match compare_keys(s, n, hi.slot()) {
+            // (Less, Less)
+            Ordering::Less => Arm {
+                left: go,
+                middle: f,
+                right: go,
+            },
+            // (_, Equal)
+            Ordering::Equal => Arm {
+                left: go,
+                middle: seen_at(hi, f),
+                right: Part::Hidden,
+            },
+            // (Less, Greater)
+            Ordering::Greater => Arm {
+                left: go,
+                middle: What::Hide,
+                right: Part::Hidden,
+            },
         },
-        (Ordering::Equal, Ordering::Equal) => Arm {
-            left: Part::Hidden,
-            middle: both_seen(lo, hi, f),
-            right: Part::Hidden,
+        Ordering::Equal => match compare_keys(s, n, hi.slot()) {
+            // (Equal, Equal)
+            Ordering::Equal => Arm {
+                left: Part::Hidden,
+                middle: both_seen(lo, hi, f),
+                right: Part::Hidden,
+            },
+            // (Equal, _)
+            Ordering::Less | Ordering::Greater => Arm {
+                left: Part::Hidden,
+                middle: seen_at(lo, f),
+                right: go,
+            },
         },
-        // the Rust's (_, Equal)
-        (Ordering::Less, Ordering::Equal) => Arm {
-            left: go,
-            middle: seen_at(hi, f),
-            right: Part::Hidden,
-        },
-        (Ordering::Equal, _) => Arm {
-            left: Part::Hidden,
-            middle: seen_at(lo, f),
-            right: go,
-        },
-        (Ordering::Less, Ordering::Greater) => Arm {
-            left: go,
-            middle: What::Hide,
-            right: Part::Hidden,
-        },
-        // the Rust's (Greater, Less)
-        (Ordering::Greater, _) => Arm {
+        // (Greater, Less)
+        Ordering::Greater => Arm {
             left: Part::Hidden,
             middle: What::Hide,
             right: go,
