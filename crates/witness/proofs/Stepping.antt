@@ -1,12 +1,13 @@
 -- A node of the tree that is written: what is known at it, its five runs of bytes, and that the entries below it grow fewer.
-use Rattle.std.specs.Prelude.{Option, Some, None, SomeIff}
-use Prim.Native.Nat.{ℕ, ◌+◌, ◌≤◌, ◌<◌}
+use Rattle.std.specs.Prelude.{Option, Some, None, SomeIff, cond}
+use Prim.Native.Nat.{ℕ, ◌+◌, ◌-◌, ◌≤◌, ◌<◌}
 use mathlib.Core.Path.{◌≡◌, refl, sym, ap, ◌∙◌}
-use mathlib.Core.Bool.{Bool}
+use mathlib.Core.Bool.{Bool, true, false}
 use mathlib.Core.List.{List, [], ◌++◌}
 use native.Mathlib.Omega.{arith}
-use lib.Dec.{eqb}
+use lib.Dec.{eqb, leb}
 use lib.ListN.{length, length-append}
+use borrow.Author.Tests.{leb-true, leb-false}
 use Rattle.key_order.specs.Order.{Key, cmp}
 use Rattle.hash_tree.specs.Written.{piece, write}
 use Rattle.slots.specs.Layout.{slot}
@@ -31,7 +32,7 @@ use Rattle.witness_walks.specs.Walked.{fork_bytes, part_bytes}
 use Rattle.witness_walks.specs.InStore.{key_in, BoundsIn, PartIn, records_in, middle_in, MiddleAt, hidden_in, HiddenAt}
 use Rattle.witness_walks.proofs.Laying.{records-held, middle-held, hidden_held}
 use Rattle.witness_trees.proofs.Lists.{arms}
-use Rattle.output.specs.Putting.{Puts}
+use Rattle.output.specs.Putting.{Puts, room_after}
 use Rattle.witness.specs.Putting.{Laid, bytes_below}
 use Rattle.output.proofs.Putting.{puts_then, puts-length}
 
@@ -78,6 +79,13 @@ pub rest : {o o' : List ℕ} {at x : ℕ} (u v : List ℕ) → Puts o o' at x u 
 rest u v p h = omega (arith, length-append u v, puts-length u p, p.place)
 
 -- ---- what is left of a room, if there is enough
+
+pub room-iff : (n m : ℕ) {r : Option ℕ} → r ≡ room_after n (Some m) → SomeIff r (n ≤ m) (m - n)
+room-iff n m e = rw e (go (leb n m) refl)
+  where
+    go : (t : Bool) → leb n m ≡ t → SomeIff (cond t (Some (m - n)) None) (n ≤ m) (m - n)
+    go true f = (leb-true n m f, refl)
+    go false f = λ h. omega (arith, leb-false n m f)
 
 pub same-left : (r : Option ℕ) {P Q : Type 0} {v w : ℕ} → SomeIff r P v → (P → Q) → (Q → P) → (P → v ≡ w) → SomeIff r Q w
 same-left None h f g e = λ q. h (g q)

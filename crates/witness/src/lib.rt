@@ -19,7 +19,7 @@ ghost use Rattle.witness_trees.specs.Witness.{Form};
 use answers::Refusal;
 use hash_tree::{Kind, fork_hash, leaf_hash};
 use key_order::order;
-use output::{put_head, put_piece};
+use output::{less, put_head, put_piece};
 use search::{KeyBound, get, lower_bound, right_prefix_neighbor, upper_bound};
 use slots::{digest, header_of, key, value};
 use std::cmp::Ordering;
@@ -137,16 +137,16 @@ fn fit(s: &[u8], n: usize, part: Part, f: What, room: usize) -> Option<usize>
 {
     match part {
         Part::Nothing => Some(room),
-        Part::Hidden => room.checked_sub(hidden_len(n)),
+        Part::Hidden => less(Some(room), hidden_len(n)),
         Part::Walked(walk) => {
             if n == 0 {
-                return room.checked_sub(2);
+                return less(Some(room), 2);
             }
             let x = records_at(s, n, walk, f);
-            let a = room.checked_sub(fork_len(x.outer))?;
+            let a = less(Some(room), fork_len(x.outer))?;
             let b = fit(s, slots::left(s, n), x.left, f, a)?;
-            let c = b.checked_sub(fork_len(x.inner))?;
-            let d = c.checked_sub(middle_len(s, n, x.middle))?;
+            let c = less(Some(b), fork_len(x.inner))?;
+            let d = less(Some(c), middle_len(s, n, x.middle))?;
             fit(s, slots::right(s, n), x.right, f, d)
         }
     }

@@ -3,12 +3,12 @@ use borrow.Author.Tests.{eqb-false}
 use Rattle.hash_tree.proofs.ParseLaws.{length-piece}
 use Rattle.llrb.specs.Tree.{left, right}
 use Rattle.witness.proofs.Lengths.{hidden-length}
-use Rattle.witness.proofs.Stepping.{parts_in, nil-bytes, hidden-bytes, nothing-at, hidden_at, left-lies, right-lies, less-left, less-right, node-entry, node-length, falls-to, same-left}
+use Rattle.witness.proofs.Stepping.{parts_in, nil-bytes, hidden-bytes, nothing-at, hidden_at, left-lies, right-lies, less-left, less-right, node-entry, node-length, falls-to, room-iff, same-left}
 use Rattle.witness.proofs.+fit.Goals as goal
 
 pub returns-then-n-eq0 : goal.returns-then-n-eq0
 returns-then-n-eq0 t c =
-    λ u L. rw (c.in-Walked.is, nil-bytes c.if-n-eq0.true c.in-Walked.walk c.args.f u L, length-piece 0 []) c.checked_sub-then-n-eq0.ensures
+    λ u L. rw (c.in-Walked.is, nil-bytes c.if-n-eq0.true c.in-Walked.walk c.args.f u L, length-piece 0 []) (room-iff _ _ c.less-then-n-eq0.ensures)
 
 pub records_at-x-requires-clause-entry_at : goal.records_at-x-requires-clause-entry_at
 records_at-x-requires-clause-entry_at t c =
@@ -20,7 +20,8 @@ pub returns-in_err-a-in-Walked : goal.returns-in_err-a-in-Walked
 returns-in_err-a-in-Walked t c =
     λ u L.
     let e = node-length c.if-n-eq0.false c.in-Walked.walk c.args.f c.records_at-x.result c.records_at-x.ensures u L in
-    rw (c.in-Walked.is, c.from_residual.ensures) (λ h. c.in_err-a-in-Walked.ensures (omega arith))
+    let n = rw c.in_err-a-in-Walked.was at (room-iff _ _ c.less-in-Walked.ensures) in
+    rw (c.in-Walked.is, c.from_residual.ensures) (λ h. n (omega arith))
 
 pub fit-requires : goal.fit-requires
 fit-requires t c =
@@ -34,6 +35,7 @@ returns-in_err-b-in-Walked t c =
     λ u L.
     let ne = c.if-n-eq0.false in
     let e = node-length ne c.in-Walked.walk c.args.f c.records_at-x.result c.records_at-x.ensures u L in
+    let a = rw c.in_ok-a-in-Walked.was at (room-iff _ _ c.less-in-Walked.ensures) in
     let n = rw c.in_err-b-in-Walked.was at (c.fit.ensures (left u) (left-lies ne u L c.left.ensures)) in
     rw (c.in-Walked.is, c.from_residual-in_err-b-in-Walked.ensures) (λ h. n (omega arith))
 
@@ -42,9 +44,10 @@ returns-in_err-c-in-Walked t c =
     λ u L.
     let ne = c.if-n-eq0.false in
     let e = node-length ne c.in-Walked.walk c.args.f c.records_at-x.result c.records_at-x.ensures u L in
+    let a = rw c.in_ok-a-in-Walked.was at (room-iff _ _ c.less-in-Walked.ensures) in
     let b = rw c.in_ok-b-in-Walked.was at (c.fit.ensures (left u) (left-lies ne u L c.left.ensures)) in
-    rw (c.in-Walked.is, c.from_residual-in_err-c-in-Walked.ensures)
-    (λ h. c.in_err-c-in-Walked.ensures (omega arith))
+    let n = rw c.in_err-c-in-Walked.was at (room-iff _ _ c.less-in-Walked-2.ensures) in
+    rw (c.in-Walked.is, c.from_residual-in_err-c-in-Walked.ensures) (λ h. n (omega arith))
 
 pub middle_len-requires : goal.middle_len-requires
 middle_len-requires t c =
@@ -55,9 +58,11 @@ returns-in_err-d-in-Walked t c =
     λ u L.
     let ne = c.if-n-eq0.false in
     let e = node-length ne c.in-Walked.walk c.args.f c.records_at-x.result c.records_at-x.ensures u L in
+    let a = rw c.in_ok-a-in-Walked.was at (room-iff _ _ c.less-in-Walked.ensures) in
     let b = rw c.in_ok-b-in-Walked.was at (c.fit.ensures (left u) (left-lies ne u L c.left.ensures)) in
-    rw (c.in-Walked.is, c.from_residual-in_err-d-in-Walked.ensures)
-    (λ h. c.in_err-d-in-Walked.ensures (omega arith))
+    let k = rw c.in_ok-c-in-Walked.was at (room-iff _ _ c.less-in-Walked-2.ensures) in
+    let n = rw c.in_err-d-in-Walked.was at (room-iff _ _ c.less-in-Walked-3.ensures) in
+    rw (c.in-Walked.is, c.from_residual-in_err-d-in-Walked.ensures) (λ h. n (omega arith))
 
 pub fit-requires-in-Walked : goal.fit-requires-in-Walked
 fit-requires-in-Walked t c =
@@ -74,14 +79,17 @@ pub returns-in-Hidden : goal.returns-in-Hidden
 returns-in-Hidden t c =
     λ u L.
     let e = hidden-length c.args.s.now c.args.n (eqb c.args.n 0) (λ q. hidden_at u L (eqb-false c.args.n 0 q)) in
-    rw (c.in-Hidden.is, ← (hidden-bytes c.args.f u L), ← e, ← c.hidden_len.ensures) c.checked_sub.ensures
+    rw (c.in-Hidden.is, ← (hidden-bytes c.args.f u L), ← e, ← c.hidden_len.ensures) (room-iff _ _ c.less.ensures)
 
 pub returns-in_ok-d-in-Walked : goal.returns-in_ok-d-in-Walked
 returns-in_ok-d-in-Walked t c =
     λ u L.
     let ne = c.if-n-eq0.false in
     let e = node-length ne c.in-Walked.walk c.args.f c.records_at-x.result c.records_at-x.ensures u L in
+    let a = rw c.in_ok-a-in-Walked.was at (room-iff _ _ c.less-in-Walked.ensures) in
     let b = rw c.in_ok-b-in-Walked.was at (c.fit.ensures (left u) (left-lies ne u L c.left.ensures)) in
+    let k = rw c.in_ok-c-in-Walked.was at (room-iff _ _ c.less-in-Walked-2.ensures) in
+    let d = rw c.in_ok-d-in-Walked.was at (room-iff _ _ c.less-in-Walked-3.ensures) in
     rw c.in-Walked.is
     (same-left _ (c.fit-in-Walked.ensures (right u) (right-lies ne u L c.right.ensures))
     (λ h. omega arith)
