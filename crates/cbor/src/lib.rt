@@ -23,7 +23,7 @@ const STRING: usize = 0x40;
 
 const LONG_STRING: usize = 0x58;
 
-// From document 01's form to CBOR, or back. Three functions ask which: fewer lines than a trait with two impls and their laws.
+// From document 01's form to CBOR, or back. Four functions ask which: fewer lines than a trait with two impls and their laws.
 #[derive(Clone, Copy)]
 pub enum Way {
     Writing,
