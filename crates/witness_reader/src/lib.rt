@@ -1,6 +1,5 @@
 // A witness and a place in it: a struct that holds the slice, for reading record after record, parent first.
-// The work is done in hash_tree; each function here takes the struct apart. (a) docs/ARCHITECTURE.md names the five plain functions, so
-// they stay beside the iterator.
+// The work is done in hash_tree; each function here takes the struct apart. The iterator reads by them.
 #![tactic(auto)]
 
 ghost use Rattle.std.specs.Prelude.{◌≡◌, ◌-◌, false, length, drop};
@@ -101,17 +100,17 @@ impl<'a> Iterator for Records<'a> {
     ghost remaining = { λ s. at_most (length s.src.now - s.at) };
 
     fn next(&mut self) -> Option<Shown<'a>> {
-        let Record { kind, len } = hash_tree::record_at(self.src, self.at)?;
+        let Record { kind, len } = record_from(self.src, self.at)?;
         let at = self.at;
         let from = at + 2;
-        let end = from + len;
+        let end = place_after(self.src, at);
         let labeled = self.labeled;
         self.at = end;
         self.labeled = kind == Kind::Labeled;
         Some(Shown {
             at,
             kind,
-            bytes: &self.src[from..end],
+            bytes: &self.src[from..from + len],
             labeled,
             end,
         })

@@ -1,12 +1,12 @@
-use Rattle.std.proofs.Common.{arith, refl, rules}
+use Rattle.std.proofs.Common.{arith, refl, rules, sym, ◌∙◌}
 use Rattle.witness_reader.proofs.Fitting.{fits, whole, ends}
 use Rattle.witness_reader.proofs.RecordsIterator.next.Goals as goal
 
 pub overflow_add-from : goal.overflow_add-from
 overflow_add-from c = let s = c.args.self.now in omega (arith, fits s.src.now s.at _ _ c.in_ok-kind.ensures)
 
-pub overflow_add-end : goal.overflow_add-end
-overflow_add-end c = let s = c.args.self.now in omega (arith, fits s.src.now s.at _ _ c.in_ok-kind.ensures)
+pub overflow_add-result : goal.overflow_add-result
+overflow_add-result c = let s = c.args.self.now in omega (arith, fits s.src.now s.at _ _ c.in_ok-kind.ensures)
 
 pub slice_bounds-result-end : goal.slice_bounds-result-end
 slice_bounds-result-end c = let s = c.args.self.now in omega (arith, fits s.src.now s.at _ _ c.in_ok-kind.ensures)
@@ -17,9 +17,9 @@ returns-clause-steps c = let s = c.args.self.now in (
   record {
     at = refl;
     whole = whole s.src.now s.at _ _ c.in_ok-kind.ensures;
-    bytes = refl;
+    bytes = rw (c.place_after-end.ensures ∙ sym (ends s.src.now s.at _ _ c.in_ok-kind.ensures)) refl;
     labeled = refl;
-    end = ends s.src.now s.at _ _ c.in_ok-kind.ensures;
+    end = c.place_after-end.ensures;
     after = refl;
     under = search rules;
   },
@@ -27,4 +27,4 @@ returns-clause-steps c = let s = c.args.self.now in (
 
 pub returns-clause-goes : goal.returns-clause-goes
 returns-clause-goes c = let s = c.args.self.now in
-    record { on = λ f. (tt, tt, omega (arith, fits s.src.now s.at _ _ c.in_ok-kind.ensures)); keeps = tt; rests = λ f. tt }
+    record { on = λ f. (tt, tt, omega (arith, fits s.src.now s.at _ _ c.in_ok-kind.ensures, ends s.src.now s.at _ _ c.in_ok-kind.ensures, c.place_after-end.ensures)); keeps = tt; rests = λ f. tt }
