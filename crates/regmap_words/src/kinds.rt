@@ -6,7 +6,7 @@ use crate::says::{Failure, OUT, bad_word, usage, version};
 use text::hex;
 use text::hex::Few;
 use text::print::{is_plain, say};
-use text::words::{find, is, part};
+use text::words::{find, index, is, part};
 
 #[derive(Clone, Copy, Debug, PartialEq, Eq)]
 pub enum Command {
@@ -34,6 +34,10 @@ pub enum Command {
     Log,
     Diff,
 }
+
+// Their names, in the order of COMMANDS.
+const NAMES: [u8; 121] =
+    *b"list\0get\0root\0set\0add\0unset\0witness\0prefix\0full\0range\0check\0read\0dot\0html\0ask\0merge\0cbor\0uncbor\0build\0run\0replay\0log\0diff";
 
 // All of them: those whose first file is a store, then the others.
 const COMMANDS: [Command; 23] = [
@@ -320,9 +324,10 @@ pub fn kind_of(line: Line) -> Result<Option<Command>, Failure> {
         version();
         return Ok(None);
     }
-    let Some(command) = COMMANDS.iter().copied().find(|c| is(c.name(), name)) else {
+    let Some(k) = index(&NAMES, name, COMMANDS.len()) else {
         return Err(unknown(line));
     };
+    let command = COMMANDS[k];
     checked(command, line)?;
     Ok(Some(command))
 }
