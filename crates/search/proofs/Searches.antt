@@ -1,5 +1,6 @@
 -- What each search answers: its turns are those of the search on paper, which carries the best met so far down the tree.
 use mathlib.Core.Path.{◌≡◌, refl, sym, ap, subst, ◌∙◌}
+use borrow.Author.Tests.{eq-eqb, ne_eqb}
 use mathlib.Core.Bool.{Bool, true, false, cond}
 use mathlib.Core.List.{List}
 use mathlib.Core.Option.{Option, none, some}
@@ -9,7 +10,8 @@ use lib.ListN.{length}
 use Rattle.std.specs.Prelude.{Some, None}
 use Rattle.std.specs.Prelude as code
 use Rattle.std.specs.declared.cmp.Ordering.TheVariants.{Greater}
-use Rattle.key_order.specs.Order.{Key, pick, cmp, common, is_prefix_of}
+use Rattle.key_order.specs.Order.{Key, pick, cmp, common, is_prefix_of, compared}
+use Rattle.key_order.specs.declared.Compared.{Compared}
 use Rattle.key_order.proofs.Laws.{begins-common}
 use Rattle.slots.specs.Layout.{slot, key_of}
 use Rattle.llrb.specs.Tree.{Entry, Tree, nil, node, get}
@@ -85,6 +87,14 @@ module _ (k : Key) where
 
   abbrev pub past_turn : Key → ℕ → code.Option KeyBound → Turn (code.Option KeyBound)
   past_turn n i b = pick (cmp n k) (Right b) (Right b) (cond (eqb (common n k) (length k)) (Right b) (Left (Some (Neighbor i))))
+
+-- by the count: where all of the prefix agrees the search goes right with what it has, else left with the neighbor
+module _ (k n : Key) {z : Compared} (ec : z ≡ compared n k) (q : z.order ≡ Greater) where
+  pub past-right : z.agree ≡ length k → (i : ℕ) (b : code.Option KeyBound) → past_turn k n i b ≡ Right b
+  past-right x i b = rw (sym (ap (λ (y : Compared). y.order) ec) ∙ q, eq-eqb _ _ (sym (ap (λ (y : Compared). y.agree) ec) ∙ x)) refl
+
+  pub past-left : (z.agree ≡ length k → ⊥) → (i : ℕ) (b : code.Option KeyBound) → past_turn k n i b ≡ Left (Some (Neighbor i))
+  past-left x i b = rw (sym (ap (λ (y : Compared). y.order) ec) ∙ q, ne_eqb _ _ (λ e. x (ap (λ (y : Compared). y.agree) ec ∙ e))) refl
 
 -- a bound, and nothing after it
 or-none : (b : Option bounds.KeyBound) → or b none ≡ b
