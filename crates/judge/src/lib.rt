@@ -22,9 +22,9 @@ pub const MAX_HEIGHT: usize = 20;
 // What a walk over a subtree finds: the last slot in order, how many entries are left, and how many black nodes a path has.
 #[derive(Clone, Copy)]
 pub struct Trail {
-    last: usize,
-    left: usize,
-    blacks: usize,
+    pub last: usize,
+    pub left: usize,
+    pub blacks: usize,
 }
 
 fn header_ok(edition: usize, n: usize, h: Header) -> bool
