@@ -202,6 +202,25 @@ pub fn tree_at(s: &[u8], at: usize, depth: usize) -> Option<usize>
     }
 }
 
+// The two trees over rebuilt ones, made apart: written out in `rebuild_at` they take more stack at each level (include/dampcandle.h).
+fn join_fork(left: &[u8; 32], r: Step) -> Step
+    ensures { result ≡ record { next = r.next; digest = fork_hash left.now r.digest } }
+{
+    Step {
+        digest: fork_hash(left, &r.digest),
+        ..r
+    }
+}
+
+fn join_labeled(label: &[u8], t: Step) -> Step
+    ensures { result ≡ record { next = t.next; digest = labeled_hash label.now t.digest } }
+{
+    Step {
+        digest: labeled_hash(label, &t.digest),
+        ..t
+    }
+}
+
 // Rebuilds the tree that stands at a place, at most `depth` records deep. A fork whose first child is no tree is left
 // at once, so each byte is read a bounded number of times, whatever the bytes are.
 pub fn rebuild_at(s: &[u8], at: usize, depth: usize) -> Option<Step>
@@ -218,17 +237,11 @@ pub fn rebuild_at(s: &[u8], at: usize, depth: usize) -> Option<Step>
         Kind::Fork => {
             let l = rebuild_at(s, next, depth - 1)?;
             let r = rebuild_at(s, l.next, depth - 1)?;
-            Some(Step {
-                next: r.next,
-                digest: fork_hash(&l.digest, &r.digest),
-            })
+            Some(join_fork(&l.digest, r))
         }
         Kind::Labeled => {
             let t = rebuild_at(s, next, depth - 1)?;
-            Some(Step {
-                next: t.next,
-                digest: labeled_hash(&s[start..next], &t.digest),
-            })
+            Some(join_labeled(&s[start..next], t))
         }
         _ => Some(Step {
             next,

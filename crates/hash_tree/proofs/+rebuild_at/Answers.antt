@@ -46,7 +46,7 @@ returns-in_err-r-in-Fork t c =
 pub returns-in_ok-r-in-Fork : goal.returns-in_ok-r-in-Fork
 returns-in_ok-r-in-Fork t c =
     let h = knows c.args.s.now c.args.at c.args.depth _ _ c.if-depth-eq0.false (sym c.record_at.ensures ∙ c.in_ok-kind.was) in
-    rw c.fork_hash.ensures (sym (fork-then _ _ _ _ _ h (ap kind_number c.in-Fork.is) c.in_ok-l-in-Fork.l (sym c.rebuild_at.ensures ∙ c.in_ok-l-in-Fork.was)
+    rw c.join_fork.ensures (sym (fork-then _ _ _ _ _ h (ap kind_number c.in-Fork.is) c.in_ok-l-in-Fork.l (sym c.rebuild_at.ensures ∙ c.in_ok-l-in-Fork.was)
     ∙ ap (joined c.in_ok-l-in-Fork.l) (sym c.rebuild_at-in-Fork.ensures ∙ c.in_ok-r-in-Fork.was)))
 
 pub returns-in_err-t-in-Labeled : goal.returns-in_err-t-in-Labeled
@@ -55,15 +55,15 @@ returns-in_err-t-in-Labeled t c =
     c.from_residual-in_err-t-in-Labeled.ensures
     ∙ sym (labeled-then _ _ _ _ _ h (ap kind_number c.in-Labeled.is) ∙ ap (labels _) (sym c.rebuild_at-in-Labeled.ensures ∙ c.in_err-t-in-Labeled.was))
 
-pub slice_bounds-labeled_hash-end : goal.slice_bounds-labeled_hash-end
-slice_bounds-labeled_hash-end t c =
+pub slice_bounds-join_labeled-end : goal.slice_bounds-join_labeled-end
+slice_bounds-join_labeled-end t c =
     let h = knows c.args.s.now c.args.at c.args.depth _ _ c.if-depth-eq0.false (sym c.record_at.ensures ∙ c.in_ok-kind.was) in
     omega (arith, h.seen.fits)
 
 pub returns-in_ok-t-in-Labeled : goal.returns-in_ok-t-in-Labeled
 returns-in_ok-t-in-Labeled t c =
     let h = knows c.args.s.now c.args.at c.args.depth _ _ c.if-depth-eq0.false (sym c.record_at.ensures ∙ c.in_ok-kind.was) in
-    rw (c.labeled_hash.ensures, cut c.args.at c.in_ok-kind.field-0.len)
+    rw (c.join_labeled.ensures, cut c.args.at c.in_ok-kind.field-0.len)
     (sym (labeled-then _ _ _ _ _ h (ap kind_number c.in-Labeled.is) ∙ ap (labels _) (sym c.rebuild_at-in-Labeled.ensures ∙ c.in_ok-t-in-Labeled.was)))
 
 pub slice_bounds-single-end : goal.slice_bounds-single-end
