@@ -303,6 +303,8 @@ fn check_list(rt: &HostRuntime, path: &[u8], err: i32) -> Result<(), Failure> {
     check_lines(rt, list, err)
 }
 
+// Its buffers stand in a frame of its own, and not in that of every command.
+#[inline(never)]
 pub fn inspect(rt: &HostRuntime, command: Command, line: Line) -> Result<(), Failure> {
     if is(line.word(1), b"-c") {
         return check_list(rt, line.word(2), line.err);
