@@ -15,7 +15,8 @@ fn no_run(line: Line) -> Failure {
     Failure::Trouble
 }
 
-// Does one command. Complaints go to `line.err`.
+// Does one command. Complaints go to `line.err`. What has buffers of its own has a frame of its own (`inline(never)`), so that
+// none of them stands on the stack beside another's.
 pub(crate) fn command(rt: &HostRuntime, line: Line) -> Result<(), Failure> {
     let Some(command) = kind_of(line)? else {
         return Ok(());

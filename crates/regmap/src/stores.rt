@@ -237,6 +237,7 @@ fn say_unchanged(command: Command, line: Line, store: &[u8], why: Unchanged) -> 
     }
 }
 
+#[inline(never)]
 pub(crate) fn change(rt: &HostRuntime, command: Command, line: Line) -> Result<(), Failure> {
     let file = lock(rt, line.word(1), line.err)?;
     let mut buf = zeros::<STORE>();

@@ -68,6 +68,7 @@ fn written(command: Command, line: Line, store: &[u8], out: &mut [u8]) -> Result
 }
 
 // Writes the witness, and says its length, the digest that it rebuilds to, and what it shows.
+#[inline(never)]
 pub(crate) fn cut(rt: &HostRuntime, command: Command, line: Line) -> Result<(), Failure> {
     let mut buf = zeros::<STORE>();
     let store = load(rt, line.word(1), &mut buf, line.err)?;
