@@ -111,7 +111,7 @@ fn say_place(line: Line, number: usize) {
 
 fn refuse_map(line: Line, text: &[u8], stop: Stop) -> Failure {
     match stop {
-        Stop::Capacity => refuse(line.err, line.word(1), Refusal::BadCapacity),
+        Stop::Capacity => refuse(line.err, line.word(1), Refusal::BadCapacity.number()),
         Stop::Line { number, fault } => {
             say_place(line, number);
             say_fault(
@@ -194,7 +194,7 @@ pub(crate) fn build(rt: &HostRuntime, line: Line) -> Result<(), Failure> {
         return fitted(rt, line, text, &mut store);
     }
     let Some(capacity) = hex::decimal(line.word(4)) else {
-        return Err(refuse(line.err, line.word(4), Refusal::BadCapacity));
+        return Err(refuse(line.err, line.word(4), Refusal::BadCapacity.number()));
     };
     made(rt, line, text, &mut store, capacity as usize)
 }

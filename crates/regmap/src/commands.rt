@@ -6,7 +6,7 @@ use regmap_check::exchange::exchange_file;
 use regmap_check::{inspect, merge_files};
 use regmap_diff::diff;
 use regmap_log::show;
-use regmap_words::kinds::{Command, kind_of};
+use regmap_words::kinds::{COMMANDS, Command, kind_of};
 use regmap_words::line::Line;
 use regmap_words::says::Failure;
 
@@ -15,8 +15,16 @@ fn no_run(line: Line) -> Failure {
     Failure::Trouble
 }
 
-// Does one command. Complaints go to `line.err`. What has buffers of its own has a frame of its own (`inline(never)`), so that
-// none of them stands on the stack beside another's.
+// A command's place among all of them.
+fn number(command: Command) -> usize {
+    COMMANDS
+        .iter()
+        .position(|c| *c == command)
+        .unwrap_or(COMMANDS.len())
+}
+
+// Does one command. Complaints go to `line.err`. What `inspect`, `cut` and `change` hold stands in frames of their own (`inline(never)`),
+// and not beside the buffers of every other command.
 pub(crate) fn command(rt: &HostRuntime, line: Line) -> Result<(), Failure> {
     let Some(command) = kind_of(line)? else {
         return Ok(());
@@ -30,10 +38,10 @@ pub(crate) fn command(rt: &HostRuntime, line: Line) -> Result<(), Failure> {
             witnesses::cut(rt, command, line)
         }
         Command::Check | Command::Read | Command::Dot | Command::Html | Command::Ask => {
-            inspect(rt, command, line)
+            inspect(rt, number(command), line)
         }
         Command::Merge => merge_files(rt, line),
-        Command::Cbor | Command::Uncbor => exchange_file(rt, command, line),
+        Command::Cbor | Command::Uncbor => exchange_file(rt, number(command), line),
         Command::Diff => diff(rt, line),
         Command::Build => build(rt, line),
         Command::Replay => replay(rt, line),

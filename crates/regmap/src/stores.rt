@@ -22,7 +22,7 @@ use text::words::piece;
 pub(crate) fn refuse_on(line: Line, store: &[u8], what: &[u8], refusal: Refusal) -> Failure {
     match refusal {
         Refusal::NotSound => no_store(line.word(1), store, line.err),
-        _ => refuse(line.err, what, refusal),
+        _ => refuse(line.err, what, refusal.number()),
     }
 }
 

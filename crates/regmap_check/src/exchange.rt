@@ -4,7 +4,7 @@ use answers::Refusal;
 use cbor::{read_cbor, write_cbor};
 use regmap_files::room::{FILE, zeros};
 use regmap_files::{Holds, load, save, save_as};
-use regmap_words::kinds::Command;
+use regmap_words::kinds::{COMMANDS, Command};
 use regmap_words::line::Line;
 use regmap_words::says::{Failure, refuse};
 use text::print::{say, say_number};
@@ -22,7 +22,7 @@ fn say_cbor(path: &[u8], length: usize, witness: &[u8]) {
 fn refused(line: Line, bytes: &[u8], refusal: Refusal) -> Failure {
     match refusal {
         Refusal::Malformed => no_witness(line.word(1), bytes, line.err),
-        _ => refuse(line.err, line.word(1), refusal),
+        _ => refuse(line.err, line.word(1), refusal.number()),
     }
 }
 
@@ -41,13 +41,13 @@ fn from_cbor(rt: &HostRuntime, line: Line, cbor: &[u8], out: &mut [u8]) -> Resul
     Ok(())
 }
 
-// The other form of a file.
-pub fn exchange_file(rt: &HostRuntime, command: Command, line: Line) -> Result<(), Failure> {
+// The other form of a file, by the command's number: CBOR for `cbor`, back for any other.
+pub fn exchange_file(rt: &HostRuntime, kind: usize, line: Line) -> Result<(), Failure> {
     let mut buf = zeros::<FILE>();
     let bytes = load(rt, line.word(1), &mut buf, line.err)?;
     let mut out = zeros::<FILE>();
-    match command {
-        Command::Cbor => to_cbor(rt, line, bytes, &mut out),
+    match COMMANDS.get(kind) {
+        Some(Command::Cbor) => to_cbor(rt, line, bytes, &mut out),
         _ => from_cbor(rt, line, bytes, &mut out),
     }
 }

@@ -14,7 +14,7 @@ use regmap_files::{Holds, kind_of, load, save};
 use regmap_page::page;
 use regmap_show::counts::{counted, say_counts};
 use regmap_show::{json, picture, records};
-use regmap_words::kinds::{Command, digest_ok};
+use regmap_words::kinds::{COMMANDS, Command, digest_ok};
 use regmap_words::line::Line;
 use regmap_words::map::register_on;
 use regmap_words::says::{Failure, OUT, refuse};
@@ -40,7 +40,7 @@ pub fn no_store(path: &[u8], store: &[u8], err: i32) -> Failure {
             path,
             b": refused (1) these are not the bytes of a store. If it is a map, build a store from it first.\n",
         ),
-        _ => return refuse(err, path, Refusal::NotSound),
+        _ => return refuse(err, path, Refusal::NotSound.number()),
     }
     Failure::Refused
 }
@@ -66,7 +66,7 @@ pub(crate) fn no_witness(path: &[u8], bytes: &[u8], err: i32) -> Failure {
             path,
             b": refused (9) these are not the bytes of a witness. Text out of a mail (hex, base64) must be turned into bytes first.\n",
         ),
-        _ => return refuse(err, path, Refusal::Malformed),
+        _ => return refuse(err, path, Refusal::Malformed.number()),
     }
     Failure::Refused
 }
@@ -185,7 +185,7 @@ fn ask_of(line: Line, witness: &[u8]) -> Result<(), Failure> {
     match ask(witness, name_in(line.word(3)).as_slice()) {
         Ok(Told::Known) => Ok(()),
         Ok(Told::Silent) => Err(Failure::Refused),
-        Err(refusal) => Err(refuse(line.err, line.word(1), refusal)),
+        Err(refusal) => Err(refuse(line.err, line.word(1), refusal.number())),
     }
 }
 
@@ -240,7 +240,7 @@ fn say_root(path: &[u8], digest: &[u8], err: i32) {
 fn unmerged(line: Line, one: &[u8], other: &[u8], refusal: Refusal) -> Result<(), Failure> {
     let first = digest_of(line.word(1), one, line.err)?;
     let second = digest_of(line.word(2), other, line.err)?;
-    let failure = refuse(line.err, line.word(2), refusal);
+    let failure = refuse(line.err, line.word(2), refusal.number());
     say_root(line.word(1), &first, line.err);
     say_root(line.word(2), &second, line.err);
     Err(failure)
@@ -303,9 +303,11 @@ fn check_list(rt: &HostRuntime, path: &[u8], err: i32) -> Result<(), Failure> {
     check_lines(rt, list, err)
 }
 
-// Its buffers stand in a frame of its own, and not in that of every command.
+// By the command's number; any number that asks nothing else shows the witness as a page. Its buffers stand in a frame of its own, and
+// not in that of every command.
 #[inline(never)]
-pub fn inspect(rt: &HostRuntime, command: Command, line: Line) -> Result<(), Failure> {
+pub fn inspect(rt: &HostRuntime, kind: usize, line: Line) -> Result<(), Failure> {
+    let command = COMMANDS.get(kind).copied().unwrap_or(Command::Html);
     if is(line.word(1), b"-c") {
         return check_list(rt, line.word(2), line.err);
     }

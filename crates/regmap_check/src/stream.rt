@@ -71,7 +71,7 @@ fn refused(n: usize, kept: &[u8], err: i32) -> Failure {
     if n < KEPT {
         return no_witness(b"-", kept, err);
     }
-    refuse(err, b"-", Refusal::Malformed)
+    refuse(err, b"-", Refusal::Malformed.number())
 }
 
 fn stopped(at: usize, kept: &[u8], err: i32) -> Failure {

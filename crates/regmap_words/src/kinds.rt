@@ -40,7 +40,7 @@ const NAMES: [u8; 121] =
     *b"list\0get\0root\0set\0add\0unset\0witness\0prefix\0full\0range\0check\0read\0dot\0html\0ask\0merge\0cbor\0uncbor\0build\0run\0replay\0log\0diff";
 
 // All of them: those whose first file is a store, then the others.
-const COMMANDS: [Command; 23] = [
+pub const COMMANDS: [Command; 23] = [
     Command::List,
     Command::Get,
     Command::Root,

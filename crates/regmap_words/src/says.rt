@@ -1,7 +1,6 @@
 // What is said to a person, and the exit statuses.
 ghost use Rattle.std.specs.Prelude.{◌≡◌, ◌<◌, IfOk, IfErr};
 
-use answers::Refusal;
 use text::print::{UNREAD, say, say_number, say3};
 
 // Why a command failed; each has its exit status.
@@ -76,41 +75,41 @@ or no match, 2 wrong words or files. docs/REGMAP.md says more.
     );
 }
 
-// What a refusal means, and what to do.
-fn meaning_of(refusal: Refusal) -> &'static [u8] {
-    match refusal {
-        Refusal::NotSound =>
+// What a refusal means by its number, and what to do; no byte for a number that is none.
+fn meaning_of(number: usize) -> &'static [u8] {
+    match number {
+        1 =>
             b"(1) the store is not sound: its bytes are damaged, or are no store. Take a sound copy, or build it anew from its map.",
-        Refusal::LongKey => b"(2) the name is longer than 48 bytes. Shorten it.",
-        Refusal::LongValue => b"(3) the value is longer than 64 bytes. Shorten it.",
-        Refusal::Reversed =>
-            b"(4) FIRST is above LAST, and two names or more lie from LAST to FIRST. Swap them.",
-        Refusal::Full =>
+        2 => b"(2) the name is longer than 48 bytes. Shorten it.",
+        3 => b"(3) the value is longer than 64 bytes. Shorten it.",
+        4 => b"(4) FIRST is above LAST, and two names or more lie from LAST to FIRST. Swap them.",
+        5 =>
             b"(5) the store is full. Unset a register, or build it anew with a larger --capacity, at most 1024.",
-        Refusal::NoRoom => b"(6) the witness does not fit the output. Ask for less.",
-        Refusal::Absent => b"(7) there is no such register. regmap list shows the names.",
-        Refusal::BadCapacity => b"(8) a store has a capacity of 1 to 1024. Choose one.",
-        Refusal::Malformed =>
+        6 => b"(6) the witness does not fit the output. Ask for less.",
+        7 => b"(7) there is no such register. regmap list shows the names.",
+        8 => b"(8) a store has a capacity of 1 to 1024. Choose one.",
+        9 =>
             b"(9) the bytes are not exactly one witness. Get the file again; regmap read shows how far it makes sense.",
-        Refusal::LongMessage => b"(10) the message is longer than 65536 bytes.",
-        Refusal::IllFormed =>
+        10 => b"(10) the message is longer than 65536 bytes.",
+        11 =>
             b"(11) the witness is not well-formed: names that do not rise, or a bare value. None of regmap's is; distrust its maker.",
-        Refusal::NotCbor => b"(12) the bytes are no witness in CBOR.",
-        Refusal::BadLog => b"(13) the log is malformed.",
-        Refusal::BadPath => b"(14) the path is empty, too long or cut short.",
-        Refusal::Unlike => b"(15) these are not two witnesses of one release.",
+        12 => b"(12) the bytes are no witness in CBOR.",
+        13 => b"(13) the log is malformed.",
+        14 => b"(14) the path is empty, too long or cut short.",
+        15 => b"(15) these are not two witnesses of one release.",
+        _ => b"",
     }
 }
 
-pub fn meaning(err: i32, refusal: Refusal) {
-    say(err, meaning_of(refusal));
+pub fn meaning(err: i32, number: usize) {
+    say(err, meaning_of(number));
     say(err, b"\n");
 }
 
-// This file or register is refused.
-pub fn refuse(err: i32, what: &[u8], refusal: Refusal) -> Failure {
+// This file or register is refused, by the number.
+pub fn refuse(err: i32, what: &[u8], number: usize) -> Failure {
     say3(err, b"regmap: ", what, b": refused ");
-    meaning(err, refusal);
+    meaning(err, number);
     Failure::Refused
 }
 
