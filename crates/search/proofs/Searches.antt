@@ -88,18 +88,30 @@ module _ (k : Key) where
   abbrev pub past_turn : Key → ℕ → code.Option KeyBound → Turn (code.Option KeyBound)
   past_turn n i b = pick (cmp n k) (Right b) (Right b) (cond (eqb (common n k) (length k)) (Right b) (Left (Some (Neighbor i))))
 
--- by the count: where all of the prefix agrees the search goes right with what it has, else left with the neighbor
-module _ (k n : Key) {z : Compared} (ec : z ≡ compared n k) (q : z.order ≡ Greater) where
-  pub past-right : z.agree ≡ length k → (i : ℕ) (b : code.Option KeyBound) → past_turn k n i b ≡ Right b
-  past-right x i b = rw (sym (ap (λ (y : Compared). y.order) ec) ∙ q, eq-eqb _ _ (sym (ap (λ (y : Compared). y.agree) ec) ∙ x)) refl
-
-  pub past-left : (z.agree ≡ length k → ⊥) → (i : ℕ) (b : code.Option KeyBound) → past_turn k n i b ≡ Left (Some (Neighbor i))
-  past-left x i b = rw (sym (ap (λ (y : Compared). y.order) ec) ∙ q, ne_eqb _ _ (λ e. x (ap (λ (y : Compared). y.agree) ec ∙ e))) refl
-
 -- a bound, and nothing after it
 or-none : (b : Option bounds.KeyBound) → or b none ≡ b
 or-none none = refl
 or-none (some b) = refl
+
+-- by the count, at a node above the prefix: where all of the prefix agrees the turn is to the right with what was met so far, else to the left with
+-- the node as neighbor; and there the search on paper goes on with the same
+module _ (k : Key) (e : Entry) {z : Compared} (ec : z ≡ compared e.key k) (q : z.order ≡ Greater) where
+  above : cmp e.key k ≡ Greater
+  above = sym (ap (λ (y : Compared). y.order) ec) ∙ q
+
+  pub past-right : z.agree ≡ length k → (b : Option bounds.KeyBound) (c : Bool) (l r : Tree)
+      → (past_turn k e.key e.slot (bound_slot b) ≡ Right (bound_slot b)) × (past_loop k b (node c e l r) ≡ past_loop k b r)
+  unfolding past_loop
+  past-right x b c l r =
+      let w : eqb (common e.key k) (length k) ≡ true = eq-eqb _ _ (sym (ap (λ (y : Compared). y.agree) ec) ∙ x) in
+      (rw (above, w) refl, rw (above, begins-common k e.key ∙ w) refl)
+
+  pub past-left : (z.agree ≡ length k → ⊥) → (b : Option bounds.KeyBound) (c : Bool) (l r : Tree)
+      → (past_turn k e.key e.slot (bound_slot b) ≡ Left (Some (Neighbor e.slot))) × (past_loop k b (node c e l r) ≡ past_loop k (some (bounds.Neighbor e)) l)
+  unfolding past_loop
+  past-left x b c l r =
+      let w : eqb (common e.key k) (length k) ≡ false = ne_eqb _ _ (λ f. x (ap (λ (y : Compared). y.agree) ec ∙ f)) in
+      (rw (above, w) refl, rw (above, begins-common k e.key ∙ w) refl)
 
 module _ (k : Key) {P : ℕ → code.Option KeyBound → Turn (code.Option KeyBound) → Type 0} {s : List ℕ} {h : ℕ} {z : code.Option KeyBound} where
   pub low_all : Turns s (low_turn k) P → (t : Tree) → Lies s h t → Descends P t None z → z ≡ bound_slot (lower_bound k t)
